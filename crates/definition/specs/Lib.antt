@@ -8,3 +8,6 @@ pub mod Json
 -- Laws
 pub mod TextLaws
 pub mod TextSteps
+pub mod PathSteps
+pub mod ListingSteps
+pub mod ListingOrder
