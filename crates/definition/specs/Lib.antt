@@ -15,6 +15,7 @@ pub mod Reordered
 pub mod TextLaws
 pub mod TextSteps
 pub mod WalkPathLaws
+pub mod AskLaws
 pub mod KeyOrderLaws
 pub mod FoldLaws
 pub mod ChosenKeyLaws
