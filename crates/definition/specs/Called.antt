@@ -9,8 +9,7 @@ use lib.Dec.{eqb, leb, ltb}
 use Rattle.definition.specs.Text.{text, if_then_else_, text-computes, Text}
 use Rattle.definition.specs.Json.{Fault}
 use Rattle.definition.specs.Specifier.{isSpecifier, specifier-computes}
-use Rattle.definition.specs.Ask.{Listing, Consult, Step, answer, log}
-use Rattle.definition.specs.ViewLaws.{seen, viewed}
+use Rattle.definition.specs.Ask.{Listing, Consult, Step, answer, log, seen, viewed}
 use Rattle.definition.specs.Listing.{entryAt, isDirectoryOf, passes30, passes31, passes32, listing-computes}
 use Rattle.definition.specs.Settings.{Settings, settingsOf, passes24, settings-computes}
 use Rattle.definition.specs.Manifest.{End, endNumber, endTexts, isAnswer, Manifest, view, manifest-computes}

@@ -19,6 +19,7 @@ pub mod PathSteps
 pub mod ListingSteps
 pub mod ListingOrder
 pub mod WalkPathLaws
+pub mod AskLaws
 pub mod KeyOrderLaws
 pub mod FoldLaws
 pub mod ChosenKeyLaws
