@@ -22,6 +22,7 @@ pub mod ChosenKeyLaws
 pub mod ExportsOrderLaws
 pub mod Local
 pub mod JsonLocal
+pub mod JsonEndLaws
 pub mod JsonStringLaws
 pub mod Layout
 pub mod Laid
