@@ -24,6 +24,7 @@ pub mod Local
 pub mod JsonLocal
 pub mod JsonEndLaws
 pub mod JsonStringLaws
+pub mod JsonNumberLaws
 pub mod Layout
 pub mod Laid
 pub mod SameMapLaws
