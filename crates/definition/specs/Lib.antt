@@ -25,6 +25,7 @@ pub mod JsonLocal
 pub mod JsonEndLaws
 pub mod JsonStringLaws
 pub mod JsonNumberLaws
+pub mod JsonSoundLaws
 pub mod Layout
 pub mod Laid
 pub mod SameMapLaws
