@@ -27,7 +27,10 @@ pub mod ChosenKeyLaws
 pub mod ExportsOrderLaws
 pub mod Local
 pub mod JsonLocal
+pub mod JsonEndLaws
 pub mod JsonStringLaws
+pub mod JsonNumberLaws
+pub mod JsonSoundLaws
 pub mod Layout
 pub mod Laid
 pub mod SameMapLaws
