@@ -36,6 +36,7 @@ pub mod LengthBound
 pub mod DepthLaws
 pub mod FoundFile
 pub mod WholeCall
+pub mod CallAgain
 pub mod ShortPaths
 pub mod DemandThree
 -- Examples, by computation
