@@ -5,6 +5,7 @@ pub mod Specifier
 pub mod Listing
 pub mod Settings
 pub mod Json
+pub mod JsonGrammar
 pub mod Exports
 pub mod Ask
 pub mod Manifest
@@ -14,6 +15,9 @@ pub mod Reordered
 -- Laws
 pub mod TextLaws
 pub mod TextSteps
+pub mod PathSteps
+pub mod ListingSteps
+pub mod ListingOrder
 pub mod WalkPathLaws
 pub mod AskLaws
 pub mod KeyOrderLaws
@@ -22,6 +26,7 @@ pub mod ChosenKeyLaws
 pub mod ExportsOrderLaws
 pub mod Local
 pub mod JsonLocal
+pub mod JsonStringLaws
 pub mod Layout
 pub mod Laid
 pub mod SameMapLaws
