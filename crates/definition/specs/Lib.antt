@@ -23,6 +23,7 @@ pub mod AskLaws
 pub mod KeyOrderLaws
 pub mod FoldLaws
 pub mod ChosenKeyLaws
+pub mod ChosenKey
 pub mod ExportsOrderLaws
 pub mod Local
 pub mod JsonLocal
