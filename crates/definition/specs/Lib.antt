@@ -24,6 +24,7 @@ pub mod AskLaws
 pub mod KeyOrderLaws
 pub mod FoldLaws
 pub mod ChosenKeyLaws
+pub mod ChosenKey
 pub mod ExportsOrderLaws
 pub mod Local
 pub mod JsonLocal
@@ -45,6 +46,7 @@ pub mod LengthBound
 pub mod DepthLaws
 pub mod FoundFile
 pub mod WholeCall
+pub mod CallAgain
 pub mod ShortPaths
 pub mod DemandThree
 -- Examples, by computation
