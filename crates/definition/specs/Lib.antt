@@ -26,6 +26,7 @@ pub mod JsonEndLaws
 pub mod JsonStringLaws
 pub mod JsonNumberLaws
 pub mod JsonSoundLaws
+pub mod JsonCompleteLaws
 pub mod Layout
 pub mod Laid
 pub mod SameMapLaws
