@@ -27,6 +27,7 @@ pub mod JsonStringLaws
 pub mod JsonNumberLaws
 pub mod JsonSoundLaws
 pub mod JsonCompleteLaws
+pub mod JsonGrammarLaws
 pub mod Layout
 pub mod Laid
 pub mod SameMapLaws
