@@ -15,10 +15,16 @@ pub mod Reordered
 -- Laws
 pub mod TextLaws
 pub mod TextSteps
+pub mod PathLaws
+pub mod PathSteps
+pub mod ListingSteps
+pub mod ListingOrder
 pub mod WalkPathLaws
+pub mod AskLaws
 pub mod KeyOrderLaws
 pub mod FoldLaws
 pub mod ChosenKeyLaws
+pub mod ChosenKey
 pub mod ExportsOrderLaws
 pub mod Local
 pub mod JsonLocal
@@ -42,6 +48,7 @@ pub mod LengthBound
 pub mod DepthLaws
 pub mod FoundFile
 pub mod WholeCall
+pub mod CallAgain
 pub mod ShortPaths
 pub mod DemandThree
 -- Examples, by computation
