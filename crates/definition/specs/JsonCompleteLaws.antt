@@ -181,8 +181,15 @@ number-reads (a-number {b = x} {c = y} {d = z} (present minus-sign) i f e) a o t
 number-reads (a-number {c = y} {d = z} absent G.zero f e) a o t d = integer-ends G.zero f e t d
 number-reads (a-number {c = y} {d = z} absent (digit1-9 {b = b} {s = s} l h ds) f e) a o t d =
     rw (ne-eqb b 32 (omega arith), ne-eqb b 9 (omega arith), ne-eqb b 10 (omega arith), ne-eqb b 13 (omega arith))
-    (rw (ne-eqb b 34 (omega arith), ne-eqb b 91 (omega arith), ne-eqb b 123 (omega arith), ne-eqb b 116 (omega arith), ne-eqb b 102 (omega arith), ne-eqb b 110 (omega arith),
-    ne-eqb b 45 (omega arith)) (ap (λ w. integer (b ∷ w ++ t)) (append-assoc s y z) ∙ integer-ends (digit1-9 l h ds) f e t d))
+    (rw (
+      ne-eqb b 34 (omega arith),
+      ne-eqb b 91 (omega arith),
+      ne-eqb b 123 (omega arith),
+      ne-eqb b 116 (omega arith),
+      ne-eqb b 102 (omega arith),
+      ne-eqb b 110 (omega arith),
+      ne-eqb b 45 (omega arith),
+    ) (ap (λ w. integer (b ∷ w ++ t)) (append-assoc s y z) ∙ integer-ends (digit1-9 l h ds) f e t d))
 
 -- a string from its opening quote
 quoted-ends : {x k : Text} → G.string x k → (r : Text) → Ends (quoted (skipSpace (x ++ r))) k r (length k ≤ 1024)

@@ -44,7 +44,7 @@ document-sound s j r e = go (andThen-both _ _ j r e)
         let x : i ≡ j = cc in
         let y : r ≡ [] = cc in
         let z : s ≡ a .text ++ v .found .text ++ b .text =
-            cut-then (a .text ++ v .found .text) (b .text) [] (cut-then (a .text) (v .found .text) q (a .cut) (v .found .cut)) (b .cut) ∙ append-nil _ in
+        cut-then (a .text ++ v .found .text) (b .text) [] (cut-then (a .text) (v .found .text) q (a .cut) (v .found .cut)) (b .cut) ∙ append-nil _ in
         record {
           in-grammar = subst (λ i. JSON-text s i) x (subst (λ z. JSON-text z i) (sym z) (a-text (a .holds) (v .found .holds) (b .holds)));
           within = subst (Within 16) x (v .within);
