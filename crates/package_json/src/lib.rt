@@ -12,6 +12,15 @@ ghost use mathlib.Core.List.{List, [], _∷_, _++_};
 ghost use Rattle.package_json.specs.Names.{Matches, markOf, Named, freshOf, NameRead, KeyRead, colonAt, keyOf};
 ghost use Rattle.package_json.specs.Scanned.{faultOf, Reads, scalarOf, afterOf, afterAt};
 
+// 01's limits: bytes of a manifest, brackets open at once, members of an object or elements of an array, decoded bytes of a string.
+const SIZE: usize = 16384;
+
+const DEPTH: usize = 16;
+
+const MEMBERS: usize = 128;
+
+const ROOM: usize = 1024;
+
 // What is wrong with a manifest, first: no JSON text can go on (7), a limit is passed (40), a name stands twice in one object (41).
 pub enum Fault {
     Malformed,
@@ -499,9 +508,6 @@ pub enum Put {
     Over,
 }
 
-// 01's limit on a decoded string.
-const ROOM: usize = 1024;
-
 // A byte behind the n that stand.
 fn put_byte(w: &mut [u8], n: usize, b: u8) -> Put
     requires { ⌜ (n ≤ 1024) × (1024 ≤ length (now w)) ⌝ }
@@ -811,7 +817,7 @@ fn same_text(m: &[u8], at: usize, key: &[u8]) -> bool
         if b == b'"' {
             return k >= key.len();
         }
-        if b == b'\\' {
+        if b == 0x5c {
             return rest_is(m, i, key, k);
         }
         if k >= key.len() {
@@ -999,7 +1005,7 @@ fn array(m: &[u8], at: usize, depth: usize) -> Scan
     if m[i] == b']' {
         return Scan::End(i + 1);
     }
-    let mut left: usize = 128;
+    let mut left = MEMBERS;
     while left > 0 {
         let read = value(m, i, depth);
         match read {
@@ -1033,7 +1039,7 @@ fn object(m: &[u8], at: usize, depth: usize) -> Scan
     }
     let mut names = [0usize; 128];
     let mut marks = [0u64; 128];
-    let mut left: usize = 128;
+    let mut left = MEMBERS;
     while left > 0 {
         let start = key(m, i, &names, &marks, left);
         match start {
@@ -1079,7 +1085,8 @@ fn extra_member(m: &[u8], at: usize) -> Scan
     ensures { λ r. ⌜ ((v : List ℕ → Read Json) (ns : List (List ℕ)) → Reads (now (m .entry)) (membersOf v ns 0 (drop at (now (m .entry)))) r) ⌝ }
 {
     if at < m.len() {
-        if m[at] == b'"' {
+        let first = m[at];
+        if first == b'"' {
             return Scan::Fault(Fault::Beyond);
         }
     }
@@ -1115,12 +1122,12 @@ pub enum Checked {
 pub fn check(m: &[u8]) -> Checked
     ensures { λ r. ⌜ checkedOf (now (m .entry)) r ≡ checkOf (now (m .entry)) ⌝ }
 {
-    if m.len() > 16384 {
+    if m.len() > SIZE {
         return Checked::Fault(Fault::Beyond);
     }
     let from = mark(m);
     let start = skip_space(m, from);
-    let read = value(m, start, 16);
+    let read = value(m, start, DEPTH);
     match read {
         Scan::Fault(f) => Checked::Fault(f),
         Scan::End(end) => {
@@ -1454,7 +1461,7 @@ pub fn get(m: &[u8], at: usize, name: &[u8]) -> Cursor
     ensures { λ r. ⌜ placed (now (m .entry)) r ≡ getAt (now (name .entry)) (drop at (now (m .entry))) ⌝ }
 {
     let mut c = first_member(m, at);
-    let mut left: usize = 128;
+    let mut left = MEMBERS;
     while left > 0 {
         match c {
             Cursor::Nothing => return Cursor::Nothing,
