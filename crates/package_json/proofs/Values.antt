@@ -5,14 +5,13 @@ use mathlib.Core.List.{List, [], _∷_}
 use Prim.Native.Nat.{ℕ, zero, suc, _+_, _-_, _<_, _≤_}
 use Prim.Native.Char.{code}
 use native.Mathlib.Omega.{arith}
-use lib.ListN.{length, drop, getD, set, length-set}
-use lib.Seq.{getD-set-same, drop-set-lt}
+use lib.ListN.{length, drop, getD}
 use lib.Dec.{eqb}
 use borrow.Author.Tests.{eq-eqb, ne-eqb}
 use Rattle.definition.specs.Text.{if_then_else_}
 use Rattle.definition.specs.Json.{Json, str, arr, obj, Elements, noElement, element, Members, noMember, member, Read, got, fault, malformed, beyond, andThen, skipSpace, quoted, follow, elements, memberName, colon, members, array, object, valueBy, value}
 use Rattle.package_json.specs.Scanned.{faultOf, Reads, scalarOf, Next, more, close, neither, afterOf, afterAt}
-use Rattle.package_json.specs.Names.{markOf, Named, nobody, also, Key, KeyRead, colonAt, keyOf}
+use Rattle.package_json.specs.Names.{Table, Inserted, Key, KeyRead, colonAt, keyOf}
 use Rattle.package_json.specs.declared.Fault as code
 use Rattle.package_json.specs.declared.Fault.the-variants.{Malformed, Beyond}
 use Rattle.package_json.specs.declared.Name.{Name}
@@ -21,6 +20,7 @@ use Rattle.package_json.specs.declared.Scan.the-variants.{End, Fault}
 use Rattle.package_json.specs.declared.Then.{Then}
 use Rattle.package_json.specs.declared.Then.the-variants.{More, Close, Neither}
 use Rattle.package_json.proofs.Rules.{here, past}
+use Rattle.package_json.proofs.Names.{table-more, table-empty}
 use Rattle.package_json.proofs.Laws.{faulty, ended, then-fault, then-end, reads-map}
 
 none : {P : Type 0} → ⊥ → P
@@ -128,7 +128,7 @@ module _ (m : List ℕ) (v : List ℕ → Read Json) where
     pub key-fault : {f : code.Fault} → keyOf ns (drop i m) ≡ fault (faultOf f) → Reads m (members v ns n (drop i m)) (Fault f)
     key-fault e = record { is = rw (one-member v ns n (drop i m) z) (rw e) }
 
-    module _ {from h₁ : ℕ} (k : Key m (keyOf ns (drop i m)) i from h₁) {r : Scan} (h : Reads m (v (drop from m)) r) where
+    module _ {texts : ℕ → List ℕ} {c from h₁ spot : ℕ} (k : Key m texts c (keyOf ns (drop i m)) i from h₁ spot) {r : Scan} (h : Reads m (v (drop from m)) r) where
       pub member-fault : {f : code.Fault} → r ≡ Fault f → Reads m (members v ns n (drop i m)) (Fault f)
       member-fault e = rw (one-member v ns n (drop i m) z, k .read) (then-fault (λ j t. andThen (rest-members v (k .name ∷ ns) (n - 1) t) (λ ms u. got (member (k .name) j ms) u)) h e)
 
@@ -148,17 +148,6 @@ module _ (m : List ℕ) (v : List ℕ → Read Json) where
     unfolding object
     object-some l e {r} g =
         rw (h ∙ here m i l) (rw (ne-eqb (getD m i 0) 125 e) (rw (here m i l) at (reads-map obj g)))
-
--- one name more, put in front of those from `n` on
-in-front : (ps : List ℕ) (n i : ℕ) → (n ≡ 0 → ⊥) → n ≤ length ps → drop (n - 1) (set ps (n - 1) i) ≡ i ∷ drop n ps
-in-front ps n i z l =
-    let lt : n - 1 < length ps = omega arith in
-    let lt′ : n - 1 < length (set ps (n - 1) i) = simp length-set lt in
-    let e : n - 1 + 1 ≡ n = omega arith in
-    rw (here (set ps (n - 1) i) (n - 1) lt′, getD-set-same ps (n - 1) i 0 lt, e, drop-set-lt n ps (n - 1) i (omega arith))
-
-pub named-more : (m ps hs : List ℕ) (n i h : ℕ) {ns : List (List ℕ)} {k s : List ℕ} → (n ≡ 0 → ⊥) → n ≤ length ps → n ≤ length hs → quoted (drop i m) ≡ got k s → h ≡ markOf 0 k → Named m (drop n ps) (drop n hs) ns → Named m (drop (n - 1) (set ps (n - 1) i)) (drop (n - 1) (set hs (n - 1) h)) (k ∷ ns)
-named-more m ps hs n i h {ns} {k} {s} z l o q e r = rw (in-front ps n i z l, in-front hs n h z o) (also s q e r)
 
 -- values by their first byte
 value-open : (d : ℕ) (s : List ℕ) → (d ≡ 0 → ⊥) → value d s ≡ valueBy (λ r. array (λ t. value (d - 1) t) (skipSpace r)) (λ r. object (λ t. value (d - 1) t) (skipSpace r)) s
@@ -229,52 +218,55 @@ module _ {v : List ℕ → Read Json} {m s : List ℕ} {i n : ℕ} (g : Elems v 
       pub elems-more : {j : ℕ} → t ≡ More j → Elems v m s j (n - 1)
       elems-more c = record { rest = λ k. g .rest (element-end m v n i (λ z. omega arith) h q (follow-more m t 93 (skipSpace (drop e m)) noElement (λ u. elements v (n - 1) u) a c k)) }
 
--- the loop over an object: the names read stand at the places from n on
-pub record Membs (v : List ℕ → Read Json) (m s ps hs : List ℕ) (i n : ℕ) : Type 0 where
+-- the loop over an object: c names were read, and so many may come
+pub record Membs (v : List ℕ → Read Json) (m s ps hs : List ℕ) (i c : ℕ) : Type 0 where
   pub names : List (List ℕ)
-  pub named : Named m (drop n ps) (drop n hs) names
+  pub table : Table m ps hs c names
   pub places : length ps ≡ 128
   pub marks : length hs ≡ 128
-  pub within : n ≤ 128
-  pub rest : {r : Scan} → Reads m (members v names n (drop i m)) r → Reads m (object v s) r
+  pub within : c ≤ 128
+  pub rest : {r : Scan} → Reads m (members v names (128 - c) (drop i m)) r → Reads m (object v s) r
 
-module _ {v : List ℕ → Read Json} {m s ps hs : List ℕ} {i n : ℕ} (g : Membs v m s ps hs i n) where
-  pub membs-over : {r : Scan} → n ≤ 0 → ((ns : List (List ℕ)) → Reads m (members v ns 0 (drop i m)) r) → Reads m (object v s) r
-  membs-over l h = let z : n ≡ 0 = omega arith in g .rest (rw z (h (g .names)))
+module _ {v : List ℕ → Read Json} {m s ps hs : List ℕ} {i c : ℕ} (g : Membs v m s ps hs i c) where
+  pub membs-over : {r : Scan} → 128 ≤ c → ((ns : List (List ℕ)) → Reads m (members v ns 0 (drop i m)) r) → Reads m (object v s) r
+  membs-over l h = let z : 128 - c ≡ 0 = omega arith in g .rest (rw z (h (g .names)))
 
-  module _ (l : 0 < n) {q : Name} (k : (ns : List (List ℕ)) → Named m (drop n ps) (drop n hs) ns → KeyRead m ns i q) where
+  module _ (l : c < 128) {q : Name} (k : (ns : List (List ℕ)) (h : Table m ps hs c ns) → KeyRead m ns (h .texts) c i q) where
     pub membs-key : {f : code.Fault} → q ≡ Name.Fault f → Reads m (object v s) (Fault f)
-    membs-key e = g .rest (key-fault m v n i (g .names) (λ z. omega arith) (rw e at (k (g .names) (g .named))))
+    membs-key e = g .rest (key-fault m v (128 - c) i (g .names) (λ z. omega arith) (rw e at (k (g .names) (g .table))))
 
-    module _ {from h₁ : ℕ} (kq : q ≡ Name.New from h₁) {r : Scan} (h : Reads m (v (drop from m)) r) where
-      the-key : Key m (keyOf (g .names) (drop i m)) i from h₁
-      the-key = rw kq at (k (g .names) (g .named))
+    module _ {from h₁ spot : ℕ} (kq : q ≡ Name.New from h₁ spot) {r : Scan} (h : Reads m (v (drop from m)) r) where
+      the-key : Key m (g .table .texts) c (keyOf (g .names) (drop i m)) i from h₁ spot
+      the-key = rw kq at (k (g .names) (g .table))
+
+      pub membs-spot : spot ≤ c
+      membs-spot = the-key .fits .within
 
       pub membs-fault : {f : code.Fault} → r ≡ Fault f → Reads m (object v s) (Fault f)
-      membs-fault e = g .rest (member-fault m v n i (g .names) (λ z. omega arith) the-key h e)
+      membs-fault e = g .rest (member-fault m v (128 - c) i (g .names) (λ z. omega arith) the-key h e)
 
       module _ {e : ℕ} (re : r ≡ End e) {t : Then} (a : afterOf 125 (skipSpace (drop e m)) ≡ afterAt m t) where
         pub membs-neither : t ≡ Neither → Reads m (object v s) (Fault Malformed)
-        membs-neither c = g .rest (member-end m v n i (g .names) (λ z. omega arith) the-key h re (follow-neither m t 125 (skipSpace (drop e m)) noMember (λ u. members v (the-key .name ∷ g .names) (n - 1) u) a c))
+        membs-neither x = g .rest (member-end m v (128 - c) i (g .names) (λ z. omega arith) the-key h re (follow-neither m t 125 (skipSpace (drop e m)) noMember (λ u. members v (the-key .name ∷ g .names) (128 - c - 1) u) a x))
 
         pub membs-close : {j : ℕ} → t ≡ Close j → Reads m (object v s) (End j)
-        membs-close c = g .rest (member-end m v n i (g .names) (λ z. omega arith) the-key h re (follow-close m t 125 (skipSpace (drop e m)) noMember (λ u. members v (the-key .name ∷ g .names) (n - 1) u) a c))
+        membs-close x = g .rest (member-end m v (128 - c) i (g .names) (λ z. omega arith) the-key h re (follow-close m t 125 (skipSpace (drop e m)) noMember (λ u. members v (the-key .name ∷ g .names) (128 - c - 1) u) a x))
 
-        pub membs-more : {j : ℕ} → t ≡ More j → Membs v m s (set ps (n - 1) i) (set hs (n - 1) h₁) j (n - 1)
-        membs-more c = let p = g .places in let o = g .marks in let w = g .within in record {
+        pub membs-more : {j : ℕ} {ps′ hs′ : List ℕ} → t ≡ More j → length ps′ ≡ length ps → length hs′ ≡ length hs → Inserted ps ps′ c spot i → Inserted hs hs′ c spot h₁ → Membs v m s ps′ hs′ j (c + 1)
+        membs-more x lp lh np nh = let p = g .places in let o = g .marks in let d : 128 - c - 1 ≡ 128 - (c + 1) = omega arith in record {
           names = the-key .name ∷ g .names;
-          named = named-more m ps hs n i h₁ (λ z. omega arith) (omega arith) (omega arith) (the-key .quote) (the-key .mark) (g .named);
-          places = simp length-set (g .places);
-          marks = simp length-set (g .marks);
+          table = table-more (g .table) (the-key .quote) (the-key .mark) (the-key .fits) np nh;
+          places = omega arith;
+          marks = omega arith;
           within = omega arith;
-          rest = λ o. g .rest (member-end m v n i (g .names) (λ z. omega arith) the-key h re (follow-more m t 125 (skipSpace (drop e m)) noMember (λ u. members v (the-key .name ∷ g .names) (n - 1) u) a c o));
+          rest = λ z. g .rest (member-end m v (128 - c) i (g .names) (λ z. omega arith) the-key h re (follow-more m t 125 (skipSpace (drop e m)) noMember (λ u. members v (the-key .name ∷ g .names) (128 - c - 1) u) a x (rw d z)));
         }
 
-pub membs-begin : (v : List ℕ → Read Json) (m s ps hs : List ℕ) (i : ℕ) → s ≡ drop i m → i < length m → (getD m i 0 ≡ 125 → ⊥) → length ps ≡ 128 → length hs ≡ 128 → Membs v m s ps hs i 128
-membs-begin v m s ps hs i h l e c d = record {
+pub membs-begin : (v : List ℕ → Read Json) (m s ps hs : List ℕ) (i : ℕ) → s ≡ drop i m → i < length m → (getD m i 0 ≡ 125 → ⊥) → length ps ≡ 128 → length hs ≡ 128 → Membs v m s ps hs i 0
+membs-begin v m s ps hs i h l e p d = record {
   names = [];
-  named = rw (past ps 128 (omega arith), past hs 128 (omega arith)) nobody;
-  places = c;
+  table = table-empty m ps hs;
+  places = p;
   marks = d;
   within = omega arith;
   rest = λ g. object-some m v s i h l e g;

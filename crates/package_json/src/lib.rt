@@ -2,14 +2,14 @@ ghost use mathlib.Core.Path.{_≡_};
 ghost use mathlib.Core.Bool.{Bool, true, false};
 ghost use Prim.Native.Nat.{ℕ, suc, _+_, _-_, _≤_, _<_};
 ghost use lib.ListN.{length, drop, take};
-ghost use Rattle.definition.specs.Text.{isOneOf, isDigit, hexDigit, utf8, trail as trailOf, equal as equalOf};
+ghost use Rattle.definition.specs.Text.{isDigit, hexDigit, utf8, trail as trailOf, equal as equalOf};
 ghost use Rattle.definition.specs.Json.{faultNumber, isSpace, skipSpace, skipDigits, digits as digitsOf, startsValue, sign as signOf, exponent as exponentOf, fraction as fractionOf, integer as integerOf, word as wordOf, plainByte, escapeByte, unit as unitOf, pair as pairOf, hexByte, secondHexByte, step as stepBy, sequence, between, string as stringOf, quoted as quotedOf, memberName, Read, Json, value as valueOf, array as arrayOf, object as objectOf, elements as elementsOf, members as membersOf, got, str, replaceBom, obj, Members, member, Elements, element as elementOf};
 ghost use Rattle.definition.specs.JsonAt.{check as checkOf, kindAt, textEnd, opensBracket, closesBracket, outside, bracketEnd, valueEnd, behind as behindOf, thenAt, unlessClosed, firstMember, firstElement, nextElement, nameEnd, memberValue, nextMember, memberAt, elementAt, nameIs, getAt, textAt};
 ghost use Rattle.package_json.specs.Cursors.{checkedOf, numberOf, kindOf, placed, Ahead, Hops, startsQuote, textOf, told, orEmpty};
 ghost use Rattle.package_json.specs.Automaton.{placeOf, stepOf, outOf, Steps, Good, High, Below, leadByte, digitOf, Fair};
 ghost use Rattle.package_json.specs.Decoded.{Begun, Puts, Decodes, plain};
 ghost use mathlib.Core.List.{List, [], _∷_};
-ghost use Rattle.package_json.specs.Names.{markOf, Named, freshOf, NameRead, KeyRead, colonAt, keyOf};
+ghost use Rattle.package_json.specs.Names.{markOf, rank, Ordered, Table, Spotted, Inserted, Fresh, NameRead, KeyRead, colonAt, keyOf};
 ghost use Rattle.package_json.specs.Scanned.{faultOf, Reads, scalarOf, afterOf, afterAt};
 
 // 01's limits: bytes of a manifest, brackets open at once, members of an object or elements of an array, decoded bytes of a string.
@@ -731,17 +731,17 @@ fn same_text(m: &[u8], at: usize, key: &[u8]) -> bool
     false
 }
 
-fn wide(b: u8) -> u64
+fn wide(b: u8) -> usize
     ensures { λ r. ⌜ r ≡ b ⌝ }
 {
-    b as u64
+    b as usize
 }
 
-// A number that equal texts share: names with different ones are not compared.
-fn mark_of(t: &[u8]) -> u64
+// A number that equal texts share: most names differ in it.
+fn mark_of(t: &[u8]) -> usize
     ensures { λ r. ⌜ r ≡ markOf 0 (now (t .entry)) ⌝ }
 {
-    let mut h: u64 = 0;
+    let mut h: usize = 0;
     let mut i = 0;
     while i < t.len() {
         h = h % 0x100000000000000 * 131 + wide(t[i]);
@@ -750,50 +750,128 @@ fn mark_of(t: &[u8]) -> u64
     h
 }
 
-// Whether the name at a place is the text `key`, by their marks first.
-fn is_name(m: &[u8], at: usize, theirs: u64, key: &[u8], mark: u64) -> bool
-    ensures { λ r. ⌜ ((t s : List ℕ) → quotedOf (drop at (now (m .entry))) ≡ got t s → theirs ≡ markOf 0 t → mark ≡ markOf 0 (now (key .entry)) → r ≡ equalOf t (now (key .entry))) ⌝ }
-{
-    if theirs != mark {
-        return false;
-    }
-    same_text(m, at, key)
+// How a name stands to another.
+enum Order {
+    Before,
+    Same,
+    Behind,
 }
 
-// Whether one of the names at the places from `from` on is the text `key`.
-fn repeated(m: &[u8], key: &[u8], mark: u64, names: &[usize], marks: &[u64], from: usize) -> bool
-    ensures { λ r. ⌜ ((ns : List (List ℕ)) → mark ≡ markOf 0 (now (key .entry)) → Named (now (m .entry)) (drop from (now (names .entry))) (drop from (now (marks .entry))) ns → r ≡ isOneOf ns (now (key .entry))) ⌝ }
+fn compare(a: &[u8], b: &[u8]) -> Order
+    ensures { λ r. ⌜ Ordered (now (a .entry)) (now (b .entry)) r ⌝ }
 {
-    let mut i = from;
-    while i < names.len() {
-        if i >= marks.len() {
-            return false;
-        }
-        let same = is_name(m, names[i], marks[i], key, mark);
-        if same {
-            return true;
-        }
-        i += 1;
+    let same = text::equal(a, b);
+    if same {
+        return Order::Same;
     }
-    false
+    let less = text::less(a, b);
+    if less {
+        return Order::Before;
+    }
+    Order::Behind
 }
 
-// Where a member's name ends, or where its value begins, and the name's mark; or the fault.
+// The order of a string, behind its opening quote and known to be good, and the text `key`.
+fn decoded_order(m: &[u8], at: usize, key: &[u8]) -> Order
+    ensures { λ r. ⌜ ((t s : List ℕ) → stringOf 1024 between (drop at (now (m .entry))) ≡ got t s → Ordered t (now (key .entry)) r) ⌝ }
+{
+    let mut w = [0u8; 1024];
+    let read = decode(m, at, &mut w);
+    match read {
+        Text::Fault(_) => Order::Same,
+        Text::End(_, n) => compare(&w[..n], key),
+    }
+}
+
+// The order of the string at a place, known to be good, and the text `key`.
+fn text_order(m: &[u8], at: usize, key: &[u8]) -> Order
+    ensures { λ r. ⌜ ((t s : List ℕ) → quotedOf (drop at (now (m .entry))) ≡ got t s → Ordered t (now (key .entry)) r) ⌝ }
+{
+    if at >= m.len() {
+        return Order::Same;
+    }
+    let stop = plain_end(m, at + 1);
+    if stop < m.len() {
+        if m[stop] == b'"' {
+            return compare(&m[at + 1..stop], key);
+        }
+    }
+    decoded_order(m, at + 1, key)
+}
+
+// The order of the name at a place and the name `key`: by their marks, and by their texts where these are equal.
+fn name_order(m: &[u8], at: usize, theirs: usize, key: &[u8], mark: usize) -> Order
+    ensures { λ r. ⌜ ((t s : List ℕ) → quotedOf (drop at (now (m .entry))) ≡ got t s → theirs ≡ markOf 0 t → mark ≡ markOf 0 (now (key .entry)) → Ordered (rank t) (rank (now (key .entry))) r) ⌝ }
+{
+    if theirs < mark {
+        return Order::Before;
+    }
+    if mark < theirs {
+        return Order::Behind;
+    }
+    text_order(m, at, key)
+}
+
+// Where a name belongs among the names before it, which stand in their order; or that it is one of them.
+enum Spot {
+    At(usize),
+    Taken,
+}
+
+// By halves: the names below `low` come before the key, and those from `high` on behind it.
+fn find(m: &[u8], key: &[u8], mark: usize, names: &[usize], marks: &[usize], count: usize) -> Spot
+    requires { ⌜ (count ≤ length (now names)) × (count ≤ length (now marks)) ⌝ }
+    ensures { λ r. ⌜ ((ns : List (List ℕ)) (h : Table (now (m .entry)) (now (names .entry)) (now (marks .entry)) count ns) → mark ≡ markOf 0 (now (key .entry)) → Spotted (h .texts) count ns (now (key .entry)) r) ⌝ }
+{
+    let mut low: usize = 0;
+    let mut high = count;
+    while low < high {
+        let middle = low + (high - low) / 2;
+        let o = name_order(m, names[middle], marks[middle], key, mark);
+        match o {
+            Order::Same => return Spot::Taken,
+            Order::Before => {
+                low = middle + 1;
+                continue;
+            }
+            Order::Behind => {
+                high = middle;
+            }
+        }
+    }
+    Spot::At(low)
+}
+
+// Puts x at a place of the first `count` numbers; those from there on move up.
+fn insert(a: &mut [usize], count: usize, at: usize, x: usize)
+    requires { ⌜ (at ≤ count) × (count < length (now a)) ⌝ }
+    ensures { λ _. ⌜ Inserted (now (a .entry)) (now (a .exit)) count at x ⌝ }
+{
+    let mut i = count;
+    while i > at {
+        a[i] = a[i - 1];
+        i -= 1;
+    }
+    a[at] = x;
+}
+
+// Where a member's name ends, or where its value begins, with the name's mark and its place among the names; or the fault.
 enum Name {
-    New(usize, u64),
+    New(usize, usize, usize),
     Fault(Fault),
 }
 
 // A name that ends at a place, if it is none of the names before it.
-fn fresh(m: &[u8], key: &[u8], end: usize, names: &[usize], marks: &[u64], from: usize) -> Name
-    ensures { λ r. ⌜ ((ns : List (List ℕ)) → Named (now (m .entry)) (drop from (now (names .entry))) (drop from (now (marks .entry))) ns → r ≡ freshOf (isOneOf ns (now (key .entry))) end (markOf 0 (now (key .entry)))) ⌝ }
+fn fresh(m: &[u8], key: &[u8], end: usize, names: &[usize], marks: &[usize], count: usize) -> Name
+    requires { ⌜ (count ≤ length (now names)) × (count ≤ length (now marks)) ⌝ }
+    ensures { λ r. ⌜ ((ns : List (List ℕ)) (h : Table (now (m .entry)) (now (names .entry)) (now (marks .entry)) count ns) → Fresh (h .texts) count ns (now (key .entry)) end r) ⌝ }
 {
     let mark = mark_of(key);
-    let again = repeated(m, key, mark, names, marks, from);
-    if again {
-        return Name::Fault(Fault::Twice);
+    let spot = find(m, key, mark, names, marks, count);
+    match spot {
+        Spot::Taken => Name::Fault(Fault::Twice),
+        Spot::At(i) => Name::New(end, mark, i),
     }
-    Name::New(end, mark)
 }
 
 // A name that has an escape.
@@ -802,22 +880,24 @@ fn escaped_name(
     at: usize,
     end: usize,
     names: &[usize],
-    marks: &[u64],
-    from: usize,
+    marks: &[usize],
+    count: usize,
 ) -> Name
-    ensures { λ r. ⌜ ((ns : List (List ℕ)) (k : List ℕ) → Named (now (m .entry)) (drop from (now (names .entry))) (drop from (now (marks .entry))) ns → stringOf 1024 between (drop at (now (m .entry))) ≡ got k (drop end (now (m .entry))) → r ≡ freshOf (isOneOf ns k) end (markOf 0 k)) ⌝ }
+    requires { ⌜ (count ≤ length (now names)) × (count ≤ length (now marks)) ⌝ }
+    ensures { λ r. ⌜ ((ns : List (List ℕ)) (h : Table (now (m .entry)) (now (names .entry)) (now (marks .entry)) count ns) (k : List ℕ) → stringOf 1024 between (drop at (now (m .entry))) ≡ got k (drop end (now (m .entry))) → Fresh (h .texts) count ns k end r) ⌝ }
 {
     let mut w = [0u8; 1024];
     let read = decode(m, at, &mut w);
     match read {
         Text::Fault(f) => Name::Fault(f),
-        Text::End(_, n) => fresh(m, &w[..n], end, names, marks, from),
+        Text::End(_, n) => fresh(m, &w[..n], end, names, marks, count),
     }
 }
 
-// A member's name, which is none of the names at the places from `from` on.
-fn member_name(m: &[u8], at: usize, names: &[usize], marks: &[u64], from: usize) -> Name
-    ensures { λ r. ⌜ ((ns : List (List ℕ)) → Named (now (m .entry)) (drop from (now (names .entry))) (drop from (now (marks .entry))) ns → NameRead (now (m .entry)) ns at r) ⌝ }
+// A member's name, which is none of the names before it.
+fn member_name(m: &[u8], at: usize, names: &[usize], marks: &[usize], count: usize) -> Name
+    requires { ⌜ (count ≤ length (now names)) × (count ≤ length (now marks)) ⌝ }
+    ensures { λ r. ⌜ ((ns : List (List ℕ)) (h : Table (now (m .entry)) (now (names .entry)) (now (marks .entry)) count ns) → NameRead (now (m .entry)) ns (h .texts) count at r) ⌝ }
 {
     let read = quoted(m, at);
     match read {
@@ -829,10 +909,10 @@ fn member_name(m: &[u8], at: usize, names: &[usize], marks: &[u64], from: usize)
             let stop = plain_end(m, at + 1);
             if stop < m.len() {
                 if m[stop] == b'"' {
-                    return fresh(m, &m[at + 1..stop], end, names, marks, from);
+                    return fresh(m, &m[at + 1..stop], end, names, marks, count);
                 }
             }
-            escaped_name(m, at + 1, end, names, marks, from)
+            escaped_name(m, at + 1, end, names, marks, count)
         }
     }
 }
@@ -851,17 +931,18 @@ fn colon(m: &[u8], at: usize) -> Scan
 }
 
 // A member up to its value.
-fn key(m: &[u8], at: usize, names: &[usize], marks: &[u64], from: usize) -> Name
-    ensures { λ r. ⌜ ((ns : List (List ℕ)) → Named (now (m .entry)) (drop from (now (names .entry))) (drop from (now (marks .entry))) ns → KeyRead (now (m .entry)) ns at r) ⌝ }
+fn key(m: &[u8], at: usize, names: &[usize], marks: &[usize], count: usize) -> Name
+    requires { ⌜ (count ≤ length (now names)) × (count ≤ length (now marks)) ⌝ }
+    ensures { λ r. ⌜ ((ns : List (List ℕ)) (h : Table (now (m .entry)) (now (names .entry)) (now (marks .entry)) count ns) → KeyRead (now (m .entry)) ns (h .texts) count at r) ⌝ }
 {
-    let name = member_name(m, at, names, marks, from);
+    let name = member_name(m, at, names, marks, count);
     match name {
         Name::Fault(f) => Name::Fault(f),
-        Name::New(end, mark) => {
+        Name::New(end, mark, spot) => {
             let start = colon(m, end);
             match start {
                 Scan::Fault(f) => Name::Fault(f),
-                Scan::End(value) => Name::New(value, mark),
+                Scan::End(value) => Name::New(value, mark, spot),
             }
         }
     }
@@ -937,13 +1018,13 @@ fn object(m: &[u8], at: usize, depth: usize) -> Scan
         return Scan::End(i + 1);
     }
     let mut names = [0usize; 128];
-    let mut marks = [0u64; 128];
-    let mut left = MEMBERS;
-    while left > 0 {
-        let start = key(m, i, &names, &marks, left);
+    let mut marks = [0usize; 128];
+    let mut count: usize = 0;
+    while count < MEMBERS {
+        let start = key(m, i, &names, &marks, count);
         match start {
             Name::Fault(f) => return Scan::Fault(f),
-            Name::New(from, mark) => {
+            Name::New(from, mark, spot) => {
                 let read = value(m, from, depth);
                 match read {
                     Scan::Fault(f) => return Scan::Fault(f),
@@ -953,9 +1034,9 @@ fn object(m: &[u8], at: usize, depth: usize) -> Scan
                             Then::Neither => return Scan::Fault(Fault::Malformed),
                             Then::Close(next) => return Scan::End(next),
                             Then::More(next) => {
-                                left -= 1;
-                                names[left] = i;
-                                marks[left] = mark;
+                                insert(&mut names, count, spot, i);
+                                insert(&mut marks, count, spot, mark);
+                                count += 1;
                                 i = next;
                             }
                         }

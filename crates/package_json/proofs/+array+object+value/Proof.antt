@@ -2,7 +2,7 @@ use mathlib.Core.Path.{refl, sym}
 use Prim.Native.Nat.{_-_, _+_, _*_}
 use lib.ListN.{drop}
 use Rattle.definition.specs.Json.{skipSpace, value as valueOf}
-use Rattle.package_json.proofs.Values.{Elems, elems-over, elems-fault, elems-neither, elems-close, elems-more, Membs, membs-begin, membs-over, membs-key, membs-fault, membs-neither, membs-close, membs-more, array-cut, array-none, array-some, object-cut, object-none, value-end, value-text, value-scalar, array-deep, object-deep, value-array, value-object}
+use Rattle.package_json.proofs.Values.{Elems, elems-over, elems-fault, elems-neither, elems-close, elems-more, Membs, membs-begin, membs-over, membs-key, membs-fault, membs-neither, membs-close, membs-more, membs-spot, array-cut, array-none, array-some, object-cut, object-none, value-end, value-text, value-scalar, array-deep, object-deep, value-array, value-object}
 use borrow.Author.Needs.{needs}
 use native.Mathlib.Omega.{arith}
 use Prim.Native.Nat.{ℕ, _<_}
@@ -20,6 +20,7 @@ use Rattle.package_json.proofs.+array+object+value.Lts-value as value-l
 use Rattle.package_json.proofs.after.Reads as after-reads
 use Rattle.package_json.proofs.extra_element.Reads as extra-element-reads
 use Rattle.package_json.proofs.extra_member.Reads as extra-member-reads
+use Rattle.package_json.proofs.insert.Reads as insert-reads
 use Rattle.package_json.proofs.key.Reads as key-reads
 use Rattle.package_json.proofs.scalar.Reads as scalar-reads
 use Rattle.package_json.proofs.skip_space.Reads as skip-space-reads
@@ -61,10 +62,10 @@ abbrev array-μ-loop : array-lts.MeasureT-loop
 array-μ-loop m at depth i₀ left₀ i left = left
 
 abbrev object-Inv-loop : object-lts.InvT-loop
-object-Inv-loop m at depth i₀ names₀ marks₀ left₀ i names marks left = Membs (valueOf depth) m (skipSpace (drop at m)) names marks i left
+object-Inv-loop m at depth i₀ names₀ marks₀ count₀ i names marks count = Membs (valueOf depth) m (skipSpace (drop at m)) names marks i count
 
 abbrev object-μ-loop : object-lts.MeasureT-loop
-object-μ-loop m at depth i₀ names₀ marks₀ left₀ i names marks left = left
+object-μ-loop m at depth i₀ names₀ marks₀ count₀ i names marks count = 128 - count
 
 pub +array+object+value-spec : {M : Type 1} → statement M
 +array+object+value-spec = close μ-array μ-object μ-value (λ t. array-lts.spec (
@@ -111,6 +112,8 @@ pub +array+object+value-spec : {M : Type 1} → statement M
       value.Post,
       after-reads.Asked,
       after-reads.Learnt,
+      insert-reads.Asked,
+      insert-reads.Learnt,
       extra-member-reads.Asked,
       extra-member-reads.Learnt,
     )
@@ -126,7 +129,7 @@ pub +array+object+value-spec : {M : Type 1} → statement M
     (λ c. membs-begin _ _ _ _ _ _ (c .before .before .before .skip-space .ensures) (c .before .before .if1 .left) (c .if2 .left) refl refl)
     (λ c. sym (c .before .before .loop .inv .places))
     (λ c. sym (c .before .before .before .loop .inv .marks))
-    (λ c κs. search needs)
+    (λ c κs. (omega (arith, c .before .before .before .loop .inv .places, c .before .before .loop-test .taken), omega (arith, c .before .before .before .loop .inv .marks, c .before .before .loop-test .taken)))
     (λ c. search needs)
     (λ c. membs-key (c .before .before .before .before .before .before .before .loop .inv) (c .before .before .before .before .before .before .loop-test .taken) (c .before .before .before .key .ensures) (c .before .start .given .1))
     (λ c. search needs)
@@ -140,13 +143,13 @@ pub +array+object+value-spec : {M : Type 1} → statement M
     (λ c. search needs)
     (λ c. membs-close (c .before .before .before .before .before .before .before .before .before .before .before .before .before .before .before .loop .inv) (c .before .before .before .before .before .before .before .before .before .before .before .before .before .before .loop-test .taken) (c .before .before .before .before .before .before .before .before .before .before .before .key .ensures) (c .before .before .before .before .before .before .before .before .before .start2 .given .1) (c .before .before .before .before .before .before .before .value .ensures) (c .before .before .before .before .before .read2 .given .1) (c .before .before .before .after .ensures) (c .before .then .given .1))
     (λ c. search needs)
+    (λ c. sym (c .before .before .before .before .before .before .before .before .before .before .before .before .before .before .before .before .loop .inv .places))
+    (λ c κs. (membs-spot (c .before .before .before .before .before .before .before .before .before .before .before .before .before .before .before .before .loop .inv) (c .before .before .before .before .before .before .before .before .before .before .before .before .before .before .before .loop-test .taken) (c .before .before .before .before .before .before .before .before .before .before .before .before .key .ensures) (c .before .before .before .before .before .before .before .before .before .before .start2 .given .1) (c .before .before .before .before .before .before .before .before .value .ensures), omega (arith, c .before .before .before .before .before .before .before .before .before .before .before .before .before .before .before .before .loop .inv .places, c .before .before .before .before .before .before .before .before .before .before .before .before .before .before .before .loop-test .taken)))
+    (λ c. sym (c .before .before .before .before .before .before .before .before .before .before .before .before .before .before .before .before .before .before .before .loop .inv .marks))
+    (λ c κs. (membs-spot (c .before .before .before .before .before .before .before .before .before .before .before .before .before .before .before .before .before .before .before .loop .inv) (c .before .before .before .before .before .before .before .before .before .before .before .before .before .before .before .before .before .before .loop-test .taken) (c .before .before .before .before .before .before .before .before .before .before .before .before .before .before .before .key .ensures) (c .before .before .before .before .before .before .before .before .before .before .before .before .before .start2 .given .1) (c .before .before .before .before .before .before .before .before .before .before .before .value .ensures), omega (arith, c .before .before .before .before .before .before .before .before .before .before .before .before .before .before .before .before .before .before .before .loop .inv .marks, c .before .before .before .before .before .before .before .before .before .before .before .before .before .before .before .before .before .before .loop-test .taken)))
     (λ c. search needs)
     (λ c. search needs)
-    (λ c. omega (arith, c .before .before .before .before .before .before .before .before .before .before .before .before .before .before .before .loop .inv .places, c .before .before .before .before .before .before .before .before .before .before .before .before .before .before .before .loop .inv .within))
-    (λ c. search needs)
-    (λ c. omega (arith, c .before .before .before .before .before .before .before .before .before .before .before .before .before .before .before .loop .inv .marks, c .before .before .before .before .before .before .before .before .before .before .before .before .before .before .before .loop .inv .within))
-    (λ c. search needs)
-    (λ c. membs-more (c .before .before .before .before .before .before .before .before .before .before .before .before .before .before .before .loop .inv) (c .before .before .before .before .before .before .before .before .before .before .before .before .before .before .loop-test .taken) (c .before .before .before .before .before .before .before .before .before .before .before .key .ensures) (c .before .before .before .before .before .before .before .before .before .start2 .given .1) (c .before .before .before .before .before .before .before .value .ensures) (c .before .before .before .before .before .read2 .given .1) (c .before .before .before .after .ensures) (c .before .then2 .given .1))
+    (λ c. membs-more (c .before .before .before .before .before .before .before .before .before .before .before .before .before .before .before .before .before .before .before .before .before .loop .inv) (c .before .before .before .before .before .before .before .before .before .before .before .before .before .before .before .before .before .before .before .before .loop-test .taken) (c .before .before .before .before .before .before .before .before .before .before .before .before .before .before .before .before .before .key .ensures) (c .before .before .before .before .before .before .before .before .before .before .before .before .before .before .before .start2 .given .1) (c .before .before .before .before .before .before .before .before .before .before .before .before .before .value .ensures) (c .before .before .before .before .before .before .before .before .before .before .before .read2 .given .1) (c .before .before .before .before .before .before .before .before .before .after .ensures) (c .before .before .before .before .before .before .before .then2 .given .1) (c .before .before .before .before .insert .kept .0) (c .before .insert2 .kept .0) (c .before .before .before .before .insert .ensures) (c .before .insert2 .ensures))
     (λ c κs. search needs)
     (λ c. membs-over (c .before .before .loop .inv) (c .before .loop-test .left) (c .extra-member .ensures _)))
     λ t. value-lts.spec (

@@ -1,4 +1,4 @@
-use mathlib.Core.Path.{sym, _∙_}
+use mathlib.Core.Path.{refl}
 use Prim.Native.Nat.{_-_}
 use borrow.Author.Needs.{needs}
 use Rattle.package_json.proofs.fresh.Statement.{statement}
@@ -10,5 +10,7 @@ fresh-spec =
     (tie.spec
     (λ c κs. search needs)
     (λ c κs. search needs)
-    (λ c. λ ns h. rw (sym (c .before .repeated .ensures ns (c .before .before .mark-of .ensures) h) ∙ c .if1 .taken))
-    (λ c. λ ns h. rw (sym (c .before .repeated .ensures ns (c .before .before .mark-of .ensures) h) ∙ c .if1 .left) (rw (c .before .before .mark-of .ensures))))
+    (λ c. search needs)
+    (λ c. search needs)
+    (λ c. λ ns h. (refl, rw (c .enum-told .given .1) at (c .before .before .find .ensures ns h (c .before .before .before .mark-of .ensures))))
+    (λ c. λ ns h. let s = rw (c .before .spot .given .1) at (c .before .before .before .find .ensures ns h (c .before .before .before .before .mark-of .ensures)) in (refl, (c .before .before .before .before .mark-of .ensures, (s .1, s .0)))))
