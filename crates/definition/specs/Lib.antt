@@ -17,6 +17,7 @@ pub mod TextLaws
 pub mod TextSteps
 pub mod PathSteps
 pub mod ListingSteps
+pub mod ListingNames
 pub mod ListingOrder
 pub mod WalkPathLaws
 pub mod AskLaws

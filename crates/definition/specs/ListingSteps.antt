@@ -5,12 +5,12 @@ use mathlib.Core.List.{List, [], _∷_}
 use Prim.Native.Nat.{ℕ, zero, suc, _+_, _-_, _*_, _≤_, _<_, min}
 use native.Mathlib.Omega.{arith}
 use lib.ListN.{length, drop, take, getD, length-drop, length-take, drop-of-length-le}
-use Rattle.definition.specs.TextLaws.{equal-true}
+use Rattle.definition.specs.TextLaws.{and-true, equal-true}
 use lib.Seq.{drop-drop, getD-drop, take-all}
 use lib.Dec.{eqb, leb}
 use Rattle.definition.specs.Listing.{Entry, noEntry}
 use Rattle.definition.specs.Text.{Text, text, equal, if_then_else_, smaller, startsWith, contains, split, slash, all, isUtf8, count}
-use borrow.Author.Tests.{leb-true, leb-false}
+use borrow.Author.Tests.{leb-true, leb-false, eqb-true}
 use mathlib.Core.Logic.{_⊎_, inl, inr}
 use Rattle.definition.specs.Path.{parent}
 use Rattle.definition.specs.Listing.{number32, entryCount, directoryMark, contentsLength, lengthsFrom, Row, rowsFrom, rows, entryOf, entryIn, entryAt, rising, isComponent, isPath, isManifest, rowFits, parentIsDirectory, noDirectoryManifest, isDirectoryEntry, firstIsRoot, sizesFit, textLength, passes30, passes31, passes32}
@@ -155,6 +155,42 @@ lengths-next l i h =
   where
     one : (k : ℕ) (ps cs : List ℕ) → lengthsFrom (suc k) ps cs ≡ number32 ps + contentsLength (number32 cs) + lengthsFrom k (drop 4 ps) (drop 4 cs)
     one k ps cs = unfold lengthsFrom in refl
+
+-- the sizes fit: the tables lie within the bytes, and so does each entry
+pub record Standing (l : List ℕ) (n i at : ℕ) : Type 0 where
+  pub number : n ≡ entryCount l
+  pub few : n ≤ 1024
+  pub tables : 8 + 8 * n ≤ length l
+  pub left : at + lengthsAt l i ≡ length l
+
+pub standing-start : (l : List ℕ) (n : ℕ) → sizesFit l ≡ true → n ≡ entryCount l → Standing l n 0 (8 + 8 * n)
+unfolding sizesFit lengthsAt
+standing-start l n e h =
+    let t = textLength l in
+    let k = lengthsFrom (entryCount l) (drop 8 l) (drop (8 + 4 * entryCount l) l) in
+    let a : (leb (length l) 65536 && leb 1 (entryCount l) && leb (entryCount l) 1024 && eqb (length l) (8 + 8 * entryCount l + t) ≡ true) × (eqb k t ≡ true) = and-true _ _ e in
+    let b : (leb (length l) 65536 && leb 1 (entryCount l) && leb (entryCount l) 1024 ≡ true) × (eqb (length l) (8 + 8 * entryCount l + t) ≡ true) = and-true _ _ (a .0) in
+    let c : (leb (length l) 65536 && leb 1 (entryCount l) ≡ true) × (leb (entryCount l) 1024 ≡ true) = and-true _ _ (b .0) in
+    let f : length l ≡ 8 + 8 * entryCount l + t = eqb-true _ _ (b .1) in
+    let g : k ≡ t = eqb-true _ _ (a .1) in
+    let m : entryCount l ≤ 1024 = leb-true _ _ (c .1) in
+    let x : entryCount l - 0 ≡ entryCount l = omega arith in
+    let y : 8 + 4 * entryCount l + 4 * 0 ≡ 8 + 4 * entryCount l = omega arith in
+    record { number = h; few = omega arith; tables = omega arith; left = rw (x, y) (omega arith) }
+
+-- the first of the entries from the i-th on
+module _ (l : List ℕ) (n i at e x : ℕ) (s : Standing l n i at) (h : i < n) (p : e ≡ at + pathLengthAt l i) (q : x ≡ e + contentsLength (contentsMarkAt l i)) where
+  next-left : x + lengthsAt l (i + 1) ≡ length l
+  next-left = omega (arith, lengths-next l i (omega (arith, s .number)), s .left)
+
+  pub standing-next : Standing l n (i + 1) x
+  standing-next = record { number = s .number; few = s .few; tables = s .tables; left = next-left }
+
+  pub standing-row : rowsAt l i at ≡ rowBy l at e x (eqb (contentsMarkAt l i) directoryMark) ∷ rowsAt l (i + 1) x
+  standing-row = rows-place l i at e x (omega (arith, s .number)) (omega (arith, s .left)) (omega (arith, next-left)) (omega (arith, next-left))
+
+  pub standing-inside : x ≤ length l
+  standing-inside = omega (arith, next-left)
 
 -- the order, with the path before
 unfoldable pub risingAfter : Text → List Row → Bool
