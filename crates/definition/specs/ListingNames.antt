@@ -1,6 +1,6 @@
 -- A path in a listing, by its last component: where the parent is a path, only the last component is left to test. Assumes nothing.
 use mathlib.Core.Path.{_≡_, refl, sym, _∙_, ap}
-use Prim.Native.Nat.{ℕ, zero, suc, _+_, _-_, _≤_, _<_}
+use Prim.Native.Nat.{ℕ, zero, suc, _+_, _-_, _≤_, _<_, max}
 use mathlib.Core.Bool.{Bool, true, false, not, _&&_, _||_, true≢false, false≢true, and-false}
 use mathlib.Core.List.{List, [], _∷_, _++_}
 use native.Mathlib.Omega.{arith}
@@ -320,3 +320,11 @@ module _ (p : Text) (k : ℕ) (h : 12 ≤ length p) (d : k ≡ length p - 12) wh
         go : (b : Bool) → eqb (getD p (k - 1) 0) slash ≡ b → isManifest p ≡ b
         go true y = ending (λ _. eqb-true _ _ y)
         go false y = refuted _ (λ f. true≢false (sym (eq-eqb _ _ (rw (← d) at (manifest-ends p f .edge (λ z. x (d ∙ z))))) ∙ y))
+
+-- the cut of a text of two bytes or more that does not begin with two "/"
+pub cut-of : (q : Text) (s k : ℕ) → LastAt slash q s → (s ≡ 1 → ⊥) → k ≡ max s 1 → 1 < length q → Cut q s k
+cut-of q s k h n e two = go (at-or-under 1 s)
+  where
+    go : (1 ≤ s) ⊎ (s < 1) → Cut q s k
+    go (inl x) = let y : s ≡ 1 → ⊥ = n in let z : k ≡ s = omega arith in rw z (cut-deep q s h (omega arith))
+    go (inr x) = let z : k ≡ 1 = omega arith in rw z (cut-root q s h (omega arith) two)

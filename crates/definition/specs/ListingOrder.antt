@@ -1,22 +1,23 @@
 -- A rising list of entries, and the marks of the prefixes of one path that are directory entries: what one pass over the listing
 -- uses to test order and parents. Assumes nothing.
 use mathlib.Core.Path.{_≡_, refl, sym, _∙_, ap}
-use Prim.Native.Nat.{ℕ, zero, suc, _+_, _-_, _≤_, _<_}
-use mathlib.Core.Bool.{Bool, true, false, not, _&&_, _||_, true≢false, false≢true, and-false}
+use Prim.Native.Nat.{ℕ, zero, suc, _+_, _-_, _≤_, _<_, max}
+use mathlib.Core.Bool.{Bool, true, false, not, _&&_, _||_, true≢false, false≢true, and-false, or-true}
 use mathlib.Core.List.{List, [], _∷_}
 use mathlib.Core.Logic.{_⊎_, inl, inr}
 use native.Mathlib.Omega.{arith}
-use borrow.Author.Tests.{eqb-true, eq-eqb, ne-eqb, lt-ltb, ltb-true, le-leb, lt-leb}
+use borrow.Author.Tests.{eqb-true, eq-eqb, ne-eqb, lt-ltb, ltb-true, le-leb, lt-leb, leb-true}
 use lib.Dec.{eqb, leb, ltb}
 use lib.ListN.{length, drop, take, getD, set, length-set, replicate, length-replicate}
 use lib.Seq.{length-take-le, take-length, getD-take, take-take, take-all, getD-set-same, getD-set-other}
 use Rattle.definition.specs.Text.{Text, text, if_then_else_, slash, equal, smaller, count, all}
-use Rattle.definition.specs.TextLaws.{equal-true, equal-refl}
+use Rattle.definition.specs.TextLaws.{and-true, equal-true, equal-refl}
 use Rattle.definition.specs.TextSteps.{equal-lengths, smaller-start, smaller-here}
 use Rattle.definition.specs.Path.{depth}
-use Rattle.definition.specs.Listing.{noEntry, Row, rising, isManifest, isPath, entryIn, entryOf, isDirectoryEntry, parentIsDirectory, listing-computes}
-use Rattle.definition.specs.ListingSteps.{at-or-under, row, risingAfter, rising-after, after-next, after-end, all-next, all-end, entry-hit, entry-miss}
-use Rattle.definition.specs.ListingNames.{isName, Cut}
+use Rattle.definition.specs.Listing.{noEntry, Row, rows, rowFits, sizesFit, firstIsRoot, passes30, passes31, rising, isManifest, isPath, entryIn, entryOf, isDirectoryEntry, parentIsDirectory, listing-computes}
+use Rattle.definition.specs.ListingSteps.{at-or-under, row, risingAfter, rising-after, after-next, after-end, all-next, all-end, all-both, entry-hit, entry-miss}
+use Rattle.definition.specs.ListingNames.{isName, Cut, cut-of}
+use Rattle.definition.specs.PathSteps.{LastAt}
 
 -- the order
 below-cases : (x y : ℕ) (b : Bool) → ltb x y || (eqb x y && b) ≡ true → (x < y) ⊎ ((x ≡ y) × (b ≡ true))
@@ -141,6 +142,32 @@ shallow r = leb (count slash (r .path)) 32
 unfoldable pub sized : Row → Bool
 sized r = leb (length (r .path)) 1024 && (isManifest (r .path) || equal (r .contents) [])
 
+module _ (p : Text) (d : Bool) (c : List ℕ) where
+  pub sized-short : sized (row p d c) ≡ true → length p ≤ 1024
+  unfolding sized
+  sized-short h = leb-true (length p) 1024 (and-true _ _ h .0)
+
+  pub sized-long : 1024 < length p → sized (row p d c) ≡ false
+  unfolding sized
+  sized-long h = rw (lt-leb (length p) 1024 h)
+
+  module _ (h : length p ≤ 1024) where
+    pub sized-empty : length c ≡ 0 → sized (row p d c) ≡ true
+    unfolding sized
+    sized-empty e = rw (le-leb (length p) 1024 h) (go c e)
+      where
+        go : (c : List ℕ) → length c ≡ 0 → isManifest p || equal c [] ≡ true
+        go [] e = unfold equal in or-true (isManifest p)
+        go (x ∷ c) e = let z : ⊥ = omega arith in absurd z
+
+    pub sized-full : (length c ≡ 0 → ⊥) → sized (row p d c) ≡ isManifest p
+    unfolding sized
+    sized-full e = rw (le-leb (length p) 1024 h, equal-lengths c [] e) (go (isManifest p))
+      where
+        go : (t : Bool) → t || false ≡ t
+        go true = refl
+        go false = refl
+
 abbrev pub pathRow : Row → Bool
 pathRow r = isPath (r .path)
 
@@ -243,7 +270,7 @@ module _ (rs : List Row) (p : Text) (m : List ℕ) (q : Text) (d : Bool) (s : Li
     prefix-same i a = sym (take-take i j p a) ∙ ap (take i) (h .same) ∙ take-take i j q a
 
     -- "/" is not larger than what was seen
-    pub going-root : length q ≡ 1 → getD q 0 0 ≡ slash → ⊥
+    going-root : length q ≡ 1 → getD q 0 0 ≡ slash → ⊥
     going-root l e = true≢false (sym whole ∙ ap (smaller p) (one q l e) ∙ g .above)
       where
         one : (q : Text) → length q ≡ 1 → getD q 0 0 ≡ slash → q ≡ text "/"
@@ -257,7 +284,7 @@ module _ (rs : List Row) (p : Text) (m : List ℕ) (q : Text) (d : Bool) (s : Li
       unfolding parentIsDirectory
       parent-is = rw (equal-lengths q (text "/") (λ z. omega (arith, t .positive, t .proper)), t .parent)
 
-      pub going-far : j < k → inOrder rs ≡ false
+      going-far : j < k → inOrder rs ≡ false
       going-far x = going-orphan (λ r. parent-is ∙ ap isDirectoryEntry (no-entry r k x (t .proper)) ∙ (unfold isDirectoryEntry in refl))
 
       module _ (x : k ≤ j) where
@@ -355,6 +382,14 @@ module _ (rs : List Row) (p : Text) (m : List ℕ) (q : Text) (d : Bool) (s : Li
                 not-smaller false e = e
                 not-smaller true e = absurd (true≢false (sym (smaller-trans p q (text "/") whole e) ∙ g .above))
 
+    -- the parent lies beyond what p and q share
+    pub going-apart : (at k : ℕ) → LastAt slash q at → (at ≡ 1 → ⊥) → k ≡ max at 1 → j < k → inOrder rs ≡ false
+    going-apart at k f n e x = go (at-or-under (length q) 1)
+      where
+        go : (length q ≤ 1) ⊎ (1 < length q) → inOrder rs ≡ false
+        go (inl y) = let z : at ≡ 0 = omega (arith, f .inside) in absurd (going-root (omega (arith, f .inside)) (rw z at (f .here)))
+        go (inr y) = going-far at k (cut-of q at k f n e y) x
+
 -- the first entry is the directory "/"
 pub going-start : (rs : List Row) (q : Text) (s : List ℕ) (tail : List Row) (m : List ℕ) → rs ≡ row q true s ∷ tail → equal q (text "/") ≡ true
     → getD m 1 0 ≡ 1 → ((i : ℕ) → 1 < i → getD m i 0 ≡ 0) → Going rs q tail m
@@ -449,3 +484,41 @@ marks-more n v i h = getD-set-other (noMarks n) 1 i v 0 (λ e. omega arith) ∙ 
 
 pub marks-size : (n v : ℕ) → length (set (noMarks n) 1 v) ≡ n
 marks-size n v = length-set (noMarks n) 1 v ∙ length-replicate {A = ℕ} n 0
+
+-- the three checks by what the passes find
+fits-both : (rs : List Row) → all rowFits rs ≡ all sized rs && all shallow rs
+unfolding rowFits sized shallow
+fits-both rs = all-both rowFits sized shallow (λ r. swap (leb (length (r .path)) 1024) (leb (count slash (r .path)) 32) (isManifest (r .path) || equal (r .contents) [])) rs
+  where
+    swap : (a b c : Bool) → a && b && c ≡ (a && c) && b
+    swap false b c = refl
+    swap true false true = refl
+    swap true false false = refl
+    swap true true true = refl
+    swap true true false = refl
+
+pub passes-30 : (l : List ℕ) {a b c : Bool} → sizesFit l ≡ a → all sized (rows l) ≡ b → all shallow (rows l) ≡ c → passes30 l ≡ a && (b && c)
+unfolding passes30
+passes-30 l h i j = rw (h, fits-both (rows l), i, j)
+
+pub passes-31 : (l : List ℕ) → (firstIsRoot (rows l) && inOrder (rows l)) ≡ true → (passes31 l ≡ true) × (all shallow (rows l) ≡ true)
+unfolding passes31
+passes-31 l h = go (firstIsRoot (rows l)) (all pathRow (rows l)) (rising (rows l)) (all (parentIsDirectory (rows l)) (rows l)) (all shallow (rows l)) h
+  where
+    go : (a b c d e : Bool) → (a && (b && c && d && e)) ≡ true → (a && b && c && d ≡ true) × (e ≡ true)
+    go false b c d e h = absurd (false≢true h)
+    go true false c d e h = absurd (false≢true h)
+    go true true false d e h = absurd (false≢true h)
+    go true true true false e h = absurd (false≢true h)
+    go true true true true e h = (refl, h)
+
+pub fails-31 : (l : List ℕ) → (firstIsRoot (rows l) && inOrder (rows l)) ≡ false → all shallow (rows l) ≡ true → passes31 l ≡ false
+unfolding passes31
+fails-31 l h k = go (firstIsRoot (rows l)) (all pathRow (rows l)) (rising (rows l)) (all (parentIsDirectory (rows l)) (rows l)) (rw k at h)
+  where
+    go : (a b c d : Bool) → (a && (b && c && d && true)) ≡ false → a && b && c && d ≡ false
+    go false b c d h = refl
+    go true false c d h = refl
+    go true true false d h = refl
+    go true true true false h = refl
+    go true true true true h = absurd (false≢true (sym h))
