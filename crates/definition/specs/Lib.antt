@@ -33,10 +33,15 @@ pub mod JsonEndLaws
 pub mod JsonStringLaws
 pub mod JsonNumberLaws
 pub mod JsonSoundLaws
+pub mod JsonCompleteLaws
+pub mod JsonGrammarLaws
 pub mod Layout
 pub mod Laid
 pub mod SameMapLaws
 pub mod ReorderedLaws
+pub mod ExportsLaws
+pub mod InsidePackage
+pub mod StringBound
 pub mod FitLaws
 pub mod SkipSteps
 pub mod AgreeLaws
@@ -48,10 +53,11 @@ pub mod DepthLaws
 pub mod FoundFile
 pub mod WholeCall
 pub mod CallAgain
-pub mod ShortPaths
+pub mod WalkBounds
 pub mod DemandThree
 -- Examples, by computation
 pub mod Examples
+pub mod JsonExamples
 pub mod ExportsTests
 pub mod ReorderedExample
 pub mod PrintedExample
