@@ -82,6 +82,28 @@ push-empty c = refl
 unfoldable pub parts : List ℕ → List Component
 parts s = flatMap component (split slash s)
 
+-- the component of one part
+module _ (s : List ℕ) where
+  pub component-empty : length s ≡ 0 → component s ≡ []
+  component-empty h = go s h
+    where
+      go : (s : List ℕ) → length s ≡ 0 → component s ≡ []
+      go [] h = unfold component equal in refl
+      go (b ∷ s) h = absurd (let z : ⊥ = omega arith in z)
+
+  pub component-dot : equal s (text ".") ≡ true → component s ≡ []
+  component-dot h = rw (equal-true s (text ".") h) (unfold component equal in refl)
+
+  pub component-up : equal s (text "..") ≡ true → component s ≡ parentDir ∷ []
+  component-up h = rw (equal-true s (text "..") h) (unfold component equal in refl)
+
+  pub component-name : (length s ≡ 0 → ⊥) → equal s (text ".") ≡ false → equal s (text "..") ≡ false → component s ≡ normal s ∷ []
+  component-name n h k = go s n h k
+    where
+      go : (s : List ℕ) → (length s ≡ 0 → ⊥) → equal s (text ".") ≡ false → equal s (text "..") ≡ false → component s ≡ normal s ∷ []
+      go [] n h k = absurd (n refl)
+      go (b ∷ s) n h k = unfold component in (rw (h, k) (unfold equal in refl))
+
 -- one step of such a loop: the next slash is at e
 module _ (p : List ℕ) (at e : ℕ) (h : e ≡ at + length (before slash (drop at p))) where
   pub parts-more : e < length p → parts (drop at p) ≡ component (take (e - at) (drop at p)) ++ parts (drop (e + 1) p)
@@ -104,17 +126,13 @@ pub components-rooted : (p : List ℕ) → startsWith (text "/") p ≡ true → 
 unfolding components parts
 components-rooted p h = rw h
 
-pub dot-none : (s : List ℕ) → equal s (text ".") ≡ true → component s ≡ []
-unfolding component
-dot-none s h = rw (equal-true s (text ".") h) (unfold equal in refl)
-
 leading-is : (ps : List (List ℕ)) → (leading ps ≡ flatMap component ps) ⊎ (leading ps ≡ curDir ∷ flatMap component ps)
 unfolding leading flatMap
 leading-is [] = inl refl
 leading-is (s ∷ ps) = go (equal s (text ".")) refl
   where
     go : (u : Bool) → equal s (text ".") ≡ u → ((if u then curDir ∷ [] else component s) ++ flatMap component ps ≡ component s ++ flatMap component ps) ⊎ ((if u then curDir ∷ [] else component s) ++ flatMap component ps ≡ curDir ∷ component s ++ flatMap component ps)
-    go true k = inr (rw (dot-none s k))
+    go true k = inr (rw (component-dot s k))
     go false k = inl refl
 
 pub components-relative : (p : List ℕ) → startsWith (text "/") p ≡ false → (components p ≡ parts p) ⊎ (components p ≡ curDir ∷ parts p)

@@ -1,55 +1,23 @@
+use borrow.Author.Needs.{needs}
+use native.Mathlib.Omega.{arith}
+use mathlib.Core.Path.{_≡_, refl, sym, _∙_}
+use Prim.Native.Nat.{_-_, _≤_}
+use lib.ListN.{length, drop}
+use Rattle.definition.specs.Text.{slash}
+use Rattle.definition.specs.Path.{andPath, pushAll}
+use Rattle.definition.specs.TextSteps.{first-inside}
+use Rattle.definition.specs.PathLaws.{parts}
+use Rattle.path.specs.Meaning.{pathAt}
+use Rattle.path.proofs.Parts.{with-last, with-more}
 use Rattle.path.proofs.push_parts.Statement.{statement}
 use Rattle.path.proofs.push_parts.Tie as tie
-use Rattle.path.proofs.push_parts.Reads as reads
-use Rattle.path.proofs.push_parts.Lts as lts
-use Rattle.path.proofs.push_part.Reads as push-part-reads
-use Rattle.text.proofs.find.Reads as find-reads
 
 abbrev Inv-loop : tie.InvT-loop
-Inv-loop b₀ from sub n₀ at₀ b n at = ?
+Inv-loop b₀ from sub n₀ at₀ b n at =
+    (at ≤ length sub) × (length b ≡ 2048) × (andPath (pathAt b n) (λ p. pushAll (parts (drop at sub)) p) ≡ andPath (pathAt b₀ from) (λ p. pushAll (parts sub) p))
 
 abbrev μ-loop : tie.MeasureT-loop
-μ-loop b₀ from sub n₀ at₀ b n at = ?
-
--- src/lib.rt:197:5
-loop-holds : tie.Need-loop-holds Inv-loop μ-loop
-loop-holds c = ?
-
--- src/lib.rt:198:13
-find-requires : tie.Need-find-requires Inv-loop μ-loop
-find-requires c κs = ?
-
--- src/lib.rt:199:29
-sub-push-part : tie.Need-sub-push-part Inv-loop μ-loop
-sub-push-part c = ?
-
--- src/lib.rt:199:29
-part-push-part-start : tie.Need-part-push-part-start Inv-loop μ-loop
-part-push-part-start c = ?
-
--- src/lib.rt:199:29
-part-push-part-end : tie.Need-part-push-part-end Inv-loop μ-loop
-part-push-part-end c = ?
-
--- src/lib.rt:199:9
-push-part-requires : tie.Need-push-part-requires Inv-loop μ-loop
-push-part-requires c κs = ?
-
--- src/lib.rt:201:13
-returns : tie.Need-returns Inv-loop μ-loop
-returns c = ?
-
--- src/lib.rt:203:14
-add-at : tie.Need-add-at Inv-loop μ-loop
-add-at c = ?
-
--- src/lib.rt:197:5
-loop-less : tie.Need-loop-less Inv-loop μ-loop
-loop-less c = ?
-
--- src/lib.rt:197:5
-loop-again : tie.Need-loop-again Inv-loop μ-loop
-loop-again c = ?
+μ-loop b₀ from sub n₀ at₀ b n at = length sub - at
 
 pub push-parts-spec : {M : Type 1} → statement M
 push-parts-spec =
@@ -57,13 +25,13 @@ push-parts-spec =
     (tie.spec
     Inv-loop
     μ-loop
-    loop-holds
-    find-requires
-    sub-push-part
-    part-push-part-start
-    part-push-part-end
-    push-part-requires
-    returns
-    add-at
-    loop-less
-    loop-again)
+    (λ c. (search needs, c .before .pre, refl))
+    (λ c κs. search needs)
+    (λ c. search needs)
+    (λ c. search needs)
+    (λ c. first-inside slash _ _ _ (c .before .find .ensures) (c .before .before .loop .inv .0))
+    (λ c κs. c .before .before .before .loop .inv .1)
+    (λ c. with-last (pathAt (c .before .before .before .before .before .loop .b) (c .before .before .before .before .before .loop .n)) _ _ _ _ (c .before .before .before .before .find .ensures) (c .before .push-part .ensures .1) (c .if1 .taken) ∙ c .before .before .before .before .before .loop .inv .2)
+    (λ c. search needs)
+    (λ c. search needs)
+    (λ c. (omega arith, c .before .push-part .ensures .0, with-more (pathAt (c .before .before .before .before .before .loop .b) (c .before .before .before .before .before .loop .n)) _ _ _ _ (c .before .before .before .before .find .ensures) (c .before .push-part .ensures .1) (c .if1 .left) ∙ c .before .before .before .before .before .loop .inv .2)))

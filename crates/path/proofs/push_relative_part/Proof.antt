@@ -1,75 +1,27 @@
 use borrow.Author.Needs.{needs}
+use mathlib.Core.Path.{_≡_, sym, _∙_, ap}
+use mathlib.Core.Logic.{⊎-elim}
+use Rattle.definition.specs.Path.{pops}
+use Rattle.definition.specs.PathLaws.{component-empty, component-dot, component-name}
+use Rattle.path.proofs.Parts.{relative-none, relative-up, relative-stays, relative-name}
 use Rattle.path.proofs.push_relative_part.Statement.{statement}
 use Rattle.path.proofs.push_relative_part.Tie as tie
-use Rattle.path.proofs.push_relative_part.Reads as reads
-use Rattle.path.proofs.push_relative_part.Lts as lts
-use Rattle.path.proofs.first.Reads as first-reads
-use Rattle.path.proofs.join.Reads as join-reads
-use Rattle.path.proofs.pops.Reads as pops-reads
-use Rattle.path.proofs.up.Reads as up-reads
-use Rattle.text.proofs.equal.Reads as equal-reads
-
--- src/lib.rt:240:9
-returns : tie.Need-returns
-returns c = ?
-
--- src/lib.rt:242:26
-slice-aggregate-equal : tie.Need-slice-aggregate-equal
-slice-aggregate-equal c = search needs
-
--- src/lib.rt:242:8
-equal-requires : tie.Need-equal-requires
-equal-requires c κs = search needs
-
--- src/lib.rt:243:9
-returns-2 : tie.Need-returns-2
-returns-2 c = ?
-
--- src/lib.rt:245:26
-slice-aggregate-equal-2 : tie.Need-slice-aggregate-equal-2
-slice-aggregate-equal-2 c = search needs
-
--- src/lib.rt:245:8
-equal-requires-2 : tie.Need-equal-requires-2
-equal-requires-2 c κs = search needs
-
--- src/lib.rt:246:17
-first-requires : tie.Need-first-requires
-first-requires c κs = search needs
-
--- src/lib.rt:246:12
-pops-requires : tie.Need-pops-requires
-pops-requires c κs = search needs
-
--- src/lib.rt:247:13
-up-requires : tie.Need-up-requires
-up-requires c κs = search needs
-
--- src/lib.rt:247:13
-returns-3 : tie.Need-returns-3
-returns-3 c = ?
-
--- src/lib.rt:250:5
-join-requires : tie.Need-join-requires
-join-requires c κs = search needs
-
--- src/lib.rt:234:1
-returns-4 : tie.Need-returns-4
-returns-4 c = ?
 
 pub push-relative-part-spec : {M : Type 1} → statement M
 push-relative-part-spec =
     tie.close
     (tie.spec
-    returns
-    slice-aggregate-equal
-    equal-requires
-    returns-2
-    slice-aggregate-equal-2
-    equal-requires-2
-    first-requires
-    pops-requires
-    up-requires
-    returns-3
-    join-requires
-    returns-4)
+    (λ c. (c .before .before .pre, relative-none _ _ _ (component-empty _ (c .if1 .taken))))
+    (λ c. search needs)
+    (λ c κs. search needs)
+    (λ c. (c .before .before .before .before .before .pre, relative-none _ _ _ (component-dot _ (sym (c .before .equal .ensures) ∙ c .if2 .taken))))
+    (λ c. search needs)
+    (λ c κs. search needs)
+    (λ c κs. search needs)
+    (λ c κs. search needs)
+    (λ c κs. search needs)
+    (λ c. (c .before .before .before .before .before .before .before .before .before .before .before .before .before .before .before .before .pre, c .up .ensures ∙ relative-up _ _ _ (sym (c .before .before .before .before .before .before .before .before .before .equal2 .ensures) ∙ c .before .before .before .before .before .before .before .before .if3 .taken) (sym (c .before .before .before .before .pops .ensures ∙ ap pops (c .before .before .before .before .before .first .ensures)) ∙ c .before .before .before .if4 .taken)))
+    (λ c κs. search needs)
+    (λ c.
+    let e = sym (c .before .before .before .equal2 .ensures) in
+    (c .join .ensures .0, c .join .ensures .1 ∙ ⊎-elim (λ w. relative-stays _ _ _ (e ∙ w .0 .taken) (sym (w .4 .ensures ∙ ap pops (w .3 .ensures)) ∙ w .5 .left)) (λ w. relative-name _ _ _ (component-name _ (c .before .before .before .before .before .before .before .before .if1 .left) (sym (c .before .before .before .before .before .before .equal .ensures) ∙ c .before .before .before .before .before .if2 .left) (e ∙ w .left))) (c .before .before .if3 .came))))
