@@ -15,6 +15,7 @@ pub mod Reordered
 -- Laws
 pub mod TextLaws
 pub mod TextSteps
+pub mod SettingsLaws
 pub mod PathLaws
 pub mod PathSteps
 pub mod ListingSteps
@@ -24,10 +25,16 @@ pub mod AskLaws
 pub mod KeyOrderLaws
 pub mod FoldLaws
 pub mod ChosenKeyLaws
+pub mod ChosenKey
 pub mod ExportsOrderLaws
 pub mod Local
 pub mod JsonLocal
+pub mod JsonEndLaws
 pub mod JsonStringLaws
+pub mod JsonNumberLaws
+pub mod JsonSoundLaws
+pub mod JsonCompleteLaws
+pub mod JsonGrammarLaws
 pub mod Layout
 pub mod Laid
 pub mod SameMapLaws
@@ -42,10 +49,12 @@ pub mod LengthBound
 pub mod DepthLaws
 pub mod FoundFile
 pub mod WholeCall
+pub mod CallAgain
 pub mod ShortPaths
 pub mod DemandThree
 -- Examples, by computation
 pub mod Examples
+pub mod JsonExamples
 pub mod ExportsTests
 pub mod ReorderedExample
 pub mod PrintedExample
