@@ -61,7 +61,10 @@ fn built(which: u8, row: &[u8]) -> bool {
         return is(p.append(field(row, 2)), field(row, 3));
     }
     if which == b'i' {
-        return is(p.append_main_file(field(row, 2), field(row, 3)), field(row, 4));
+        return is(
+            p.append_main_file(field(row, 2), field(row, 3)),
+            field(row, 4),
+        );
     }
     is(p.push_manifest(), field(row, 2))
 }
@@ -150,7 +153,10 @@ fn more_limits(a: &[u8]) -> usize {
     let mut n: usize = 0;
     n = tick(n, over(path::normalize_with(base, b"aaaaaaaa/..")));
     n = tick(n, has(path::normalize_with(base, b"aaaaaaa/../b"), 2042));
-    n = tick(n, has(path::normalize_with(path::first(a, 2048), b"./."), 2048));
+    n = tick(
+        n,
+        has(path::normalize_with(path::first(a, 2048), b"./."), 2048),
+    );
     n = tick(n, over(path::normalize_with(path::first(a, 2049), b"..")));
     n = tick(n, has(path::normalize_with(path::first(a, 2049), b"/b"), 2));
     n = tick(n, over(path::normalize_with(b"/", a)));
