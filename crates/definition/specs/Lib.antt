@@ -8,3 +8,4 @@ pub mod Json
 -- Laws
 pub mod TextLaws
 pub mod TextSteps
+pub mod SpecifierLaws
