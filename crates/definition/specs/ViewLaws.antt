@@ -1,0 +1,58 @@
+-- Agreement where a routine sees of a manifest only a view, and views are the same for related bytes. Assumes nothing.
+use mathlib.Core.Path.{_≡_, refl, sym, _∙_, ap}
+use mathlib.Core.List.{List, [], _∷_, List·Memᴰ}
+use mathlib.Core.Option.{Option, none, some}
+use Prim.Native.Nat.{ℕ}
+use Rattle.definition.specs.Text.{Text}
+use Rattle.definition.specs.Listing.{Entry, noEntry, directoryEntry, fileEntry}
+use Rattle.definition.specs.Ask.{State, Listing, Consult, Step, Ask, stateOf, answer, log}
+use Rattle.definition.specs.AgreeLaws.{Same, Agree, agree-answer, agree-log}
+
+-- 01: the two have the same state, and at state 3 two files that are related
+pub record Alike {N : Type 0} (R : N → N → Type 0) (A B : Listing N) (c : Consult) : Type 0 where
+  pub kind : stateOf (A (c .path)) ≡ stateOf (B (c .path))
+  pub contents : c .state ≡ 3 → (a b : N) → A (c .path) ≡ fileEntry a → B (c .path) ≡ fileEntry b → R a b
+
+module _ {N M : Type 0} where
+  unfoldable pub viewed : (N → M) → Entry N → Entry M
+  viewed view noEntry = noEntry
+  viewed view directoryEntry = directoryEntry
+  viewed view (fileEntry b) = fileEntry (view b)
+
+  -- a listing as a routine sees it
+  unfoldable pub seen : (N → M) → Listing N → Listing M
+  seen view L p = viewed view (L p)
+
+  pub state-viewed : (view : N → M) (e : Entry N) → stateOf (viewed view e) ≡ stateOf e
+  unfolding stateOf viewed
+  state-viewed view noEntry = refl
+  state-viewed view directoryEntry = refl
+  state-viewed view (fileEntry b) = refl
+
+  module _ (view : N → M) (R : N → N → Type 0) (kept : (a b : N) → R a b → view a ≡ view b) where
+    same-view : (a b : Entry N) → stateOf a ≡ stateOf b → ((v w : N) → a ≡ fileEntry v → b ≡ fileEntry w → R v w) → viewed view a ≡ viewed view b
+    unfolding stateOf viewed
+    same-view noEntry noEntry h r = refl
+    same-view noEntry directoryEntry h r = cc
+    same-view noEntry (fileEntry w) h r = cc
+    same-view directoryEntry noEntry h r = cc
+    same-view directoryEntry directoryEntry h r = refl
+    same-view directoryEntry (fileEntry w) h r = cc
+    same-view (fileEntry v) noEntry h r = cc
+    same-view (fileEntry v) directoryEntry h r = cc
+    same-view (fileEntry v) (fileEntry w) h r = ap fileEntry (kept v w (r v w refl refl))
+
+    pub alike-same : (A B : Listing N) (c : Consult) → Alike R A B c → Same (seen view A) (seen view B) c
+    unfolding seen
+    alike-same A B c h = record {
+      kind = state-viewed view (A (c .path)) ∙ h .kind ∙ sym (state-viewed view (B (c .path)));
+      contents = λ e. same-view (A (c .path)) (B (c .path)) (h .kind) (h .contents e);
+    }
+
+    -- THE THEOREM of demand 3, for every routine: its one premise on the manifests is `kept`
+    module _ {E X : Type 0} (A B : Listing N) (t : Ask E M X) (h : (c : Consult) → List·Memᴰ c (log (seen view A) t) → Alike R A B c) where
+      pub same-answer : answer (seen view A) t ≡ answer (seen view B) t
+      same-answer = agree-answer (seen view A) (seen view B) t (λ c m. alike-same A B c (h c m))
+
+      pub same-log : log (seen view A) t ≡ log (seen view B) t
+      same-log = agree-log (seen view A) (seen view B) t (λ c m. alike-same A B c (h c m))
