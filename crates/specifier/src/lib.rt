@@ -2,7 +2,8 @@
 ghost use mathlib.Core.Path.{_≡_};
 ghost use Prim.Native.Nat.{ℕ, _+_, _≤_, _<_};
 ghost use lib.ListN.{length, drop, take};
-ghost use Rattle.definition.specs.Specifier.{packageName, packageSubpath, isBare};
+ghost use Rattle.definition.specs.Specifier.{packageName, packageSubpath, isBare, body};
+ghost use Rattle.specifier.specs.Scanned.{Scanned};
 
 // Where the name ends: at the first "/", of a name that begins with "@" at the second.
 fn name_end(s: &[u8]) -> usize
@@ -55,4 +56,43 @@ pub fn is_bare(s: &[u8]) -> bool
         return false;
     }
     true
+}
+
+// Where the fragment begins, and whether a "#" before it is escaped.
+struct Cut {
+    fragment: usize,
+    escaped: bool,
+}
+
+// The fragment begins at the first "#", save the first byte, that does not follow byte 0.
+fn scan(s: &[u8]) -> Cut
+    ensures { λ r. ⌜ Scanned (now (s .entry)) (r .fragment) (r .escaped) ⌝ }
+{
+    if s.len() == 0 {
+        return Cut {
+            fragment: 0,
+            escaped: false,
+        };
+    }
+    let mut prev = s[0];
+    let mut escaped = false;
+    let mut i = 1;
+    while i < s.len() {
+        let b = s[i];
+        if b == b'#' {
+            if prev != 0 {
+                return Cut {
+                    fragment: i,
+                    escaped,
+                };
+            }
+            escaped = true;
+        }
+        prev = b;
+        i += 1;
+    }
+    Cut {
+        fragment: i,
+        escaped,
+    }
 }
