@@ -5,6 +5,7 @@ pub mod Specifier
 pub mod Listing
 pub mod Settings
 pub mod Json
+pub mod JsonGrammar
 pub mod Exports
 pub mod Ask
 pub mod Manifest
@@ -19,12 +20,14 @@ pub mod PathSteps
 pub mod ListingSteps
 pub mod ListingOrder
 pub mod WalkPathLaws
+pub mod AskLaws
 pub mod KeyOrderLaws
 pub mod FoldLaws
 pub mod ChosenKeyLaws
 pub mod ExportsOrderLaws
 pub mod Local
 pub mod JsonLocal
+pub mod JsonStringLaws
 pub mod Layout
 pub mod Laid
 pub mod SameMapLaws

@@ -1,24 +1,63 @@
--- DEMAND 3's WORDS on bytes: a manifest in which maps of exports fields are reordered. Only definitions stand here; what is
--- read of such a pair is in `Manifests`.
+-- DEMAND 3's WORDS, on bytes (00, and 01 "Demand 3's words"): two manifests with the same bytes, reordering apart; and two listings
+-- that agree at a consult. Laws: ReorderedLaws (such manifests are read alike), Laid (every faultless manifest is laid out so).
 use mathlib.Core.Path.{_≡_}
 use Prim.Native.Nat.{ℕ}
 use Prim.Native.Char.{code}
-use mathlib.Core.Bool.{Bool, true, false}
-use mathlib.Core.List.{List, [], _∷_, _++_, List·Permᴰ}
+use mathlib.Core.Bool.{Bool, true, false, _&&_}
+use mathlib.Core.List.{List, [], _∷_, _++_, List·Memᴰ, List·Permᴰ}
 use mathlib.Core.Logic.{_⊎_, inl, inr}
 use lib.ListN.{length}
-use Rattle.definition.specs.Text.{isOneOf}
-use Rattle.definition.specs.Json.{Json, Read, got, quoted, parse, replaceBom}
-use Rattle.definition.specs.ExportsOrderLaws.{SubpathMap}
-use Rattle.definition.specs.Layout.{allSpace, Piece, Layout, entriesOf}
+use Rattle.definition.specs.Text.{text, isOneOf}
+use Rattle.definition.specs.Json.{Json, Read, got, andThen, isSpace, skipSpace, quoted, colon, value, parse, replaceBom}
+use Rattle.definition.specs.Exports.{Entry, isSubpathKey}
+use Rattle.definition.specs.Listing.{fileEntry, entryAt}
+use Rattle.definition.specs.Settings.{settingsOf}
+use Rattle.definition.specs.Ask.{Listing, Consult, stateOf}
 
--- an object's text, from its opening bracket to its closing one: these members in this order. A `Piece` is a member's text, from its
--- key's opening quote to its value's end; in a `Layout` commas stand between the pieces, and white space beside them
+-- "Faultless: neither 7, 40 nor 41"
+abbrev pub Faultless : List ℕ → Type 0
+Faultless a = (j : Json) × (parse a ≡ got j [])
+
+-- white space
+unfoldable pub allSpace : List ℕ → Bool
+allSpace [] = true
+allSpace (b ∷ s) = isSpace b && allSpace s
+
+-- a member is read: its key, a colon, its value by the reader v
+unfoldable pub memberAt : (List ℕ → Read Json) → List ℕ → Read Entry
+memberAt v s =
+    andThen (quoted s) λ k r.
+    andThen (colon v (skipSpace r)) λ j t.
+    got (record { key = k; target = j }) t
+
+-- "each unchanged from its key's opening quote to its value's end": the text of one member, and the key, decoded, and the value that
+-- it reads as; its value opens at most `deep` brackets
+pub record Piece (deep : ℕ) : Type 0 where
+  pub entry : Entry
+  pub text : List ℕ
+  pub reads : memberAt (value deep) text ≡ got entry []
+
+abbrev pub entriesOf : {deep : ℕ} → List (Piece deep) → List Entry
+entriesOf [] = []
+entriesOf (p ∷ ps) = p .entry ∷ entriesOf ps
+
+-- "white space beside them is free": an object's text behind its opening bracket, with these members in this order; white space stands
+-- behind each member and behind each comma
+pub data Layout (deep : ℕ) : List (Piece deep) → List ℕ → Type 0 where
+  lastPiece : (p : Piece deep) (x : List ℕ) → allSpace x ≡ true → Layout deep (p ∷ []) (p .text ++ (x ++ code "}" ∷ []))
+  nextPiece : (p : Piece deep) (x y : List ℕ) → allSpace x ≡ true → allSpace y ≡ true → {ps : List (Piece deep)} {s : List ℕ} → Layout deep ps s
+      → Layout deep (p ∷ ps) (p .text ++ (x ++ code "," ∷ (y ++ s)))
+
+-- an object's text, from its opening bracket to its closing one: these members in this order
 pub data ObjectText (deep : ℕ) : List (Piece deep) → List ℕ → Type 0 where
   empty : (x : List ℕ) → allSpace x ≡ true → ObjectText deep [] (code "{" ∷ (x ++ code "}" ∷ []))
   filled : (x : List ℕ) → allSpace x ≡ true → {ps : List (Piece deep)} {s : List ℕ} → Layout deep ps s → ObjectText deep ps (code "{" ∷ (x ++ s))
 
--- a map in two orders: its members, each unchanged, stand in another order; its keys, decoded, are each "." or begin with "./" or "#"
+-- "whose keys are each "." or begin with "./" or "#"", taken decoded
+abbrev pub SubpathMap : List Entry → Type 0
+SubpathMap es = (e : Entry) → List·Memᴰ e es → (e .key ≡ text ".") ⊎ (isSubpathKey (e .key) ≡ true)
+
+-- "the map's members, each unchanged, stand in another order" (or in the same one)
 pub record MapReordered (a b : List ℕ) : Type 0 where
   pub these : List (Piece 14)
   pub those : List (Piece 14)
@@ -27,25 +66,23 @@ pub record MapReordered (a b : List ℕ) : Type 0 where
   pub this : ObjectText 14 these a
   pub that : ObjectText 14 those b
 
--- a member of the root in the two files: the same bytes; or a key, a colon and white space that are the same bytes, the key being
--- decoded the name of an exports field, and as its value a map that is reordered
+-- a member of the root object in the two files. "Every byte outside such maps stays": it has the same bytes, or its key, its colon and
+-- the white space between have. "An exports field is a member of the manifest's root object with a name from the settings; its own map
+-- is its value, if an object": the key, decoded, is such a name, and the value is a map that is reordered
 pub data MemberReordered (fields : List (List ℕ)) : List ℕ → List ℕ → Type 0 where
   unchanged : (p : Piece 15) → MemberReordered fields (p .text) (p .text)
   ownMap : (key name x y : List ℕ) {a b : List ℕ} → quoted key ≡ got name [] → isOneOf fields name ≡ true → allSpace x ≡ true → allSpace y ≡ true → MapReordered a b
       → MemberReordered fields (key ++ (x ++ code ":" ∷ (y ++ a))) (key ++ (x ++ code ":" ∷ (y ++ b)))
 
--- the members of the root, up to its closing bracket: the same bytes stand between them
+-- the members of the root, up to its closing bracket: the same bytes stand between them. Any number of them may be exports fields
 pub data RootReordered (fields : List (List ℕ)) : List ℕ → List ℕ → Type 0 where
-  last : {a b : List ℕ} → MemberReordered fields a b → (x : List ℕ) → allSpace x ≡ true
+  lastMember : {a b : List ℕ} → MemberReordered fields a b → (x : List ℕ) → allSpace x ≡ true
       → RootReordered fields (a ++ (x ++ code "}" ∷ [])) (b ++ (x ++ code "}" ∷ []))
-  more : {a b : List ℕ} → MemberReordered fields a b → (x y : List ℕ) → allSpace x ≡ true → allSpace y ≡ true → {s t : List ℕ} → RootReordered fields s t
+  nextMember : {a b : List ℕ} → MemberReordered fields a b → (x y : List ℕ) → allSpace x ≡ true → allSpace y ≡ true → {s t : List ℕ} → RootReordered fields s t
       → RootReordered fields (a ++ (x ++ code "," ∷ (y ++ s))) (b ++ (x ++ code "," ∷ (y ++ t)))
 
--- neither 7, 40 nor 41
-abbrev pub Faultless : List ℕ → Type 0
-Faultless a = (j : Json) × (parse a ≡ got j [])
-
--- two files: the same bytes in front of the root object (white space, perhaps behind a byte order mark) and behind it
+-- two files: the same bytes in front of the root object (white space, perhaps behind a byte order mark) and behind it; faultless; "the
+-- file is as long as before"
 pub record Reordered (fields : List (List ℕ)) (a b : List ℕ) : Type 0 where
   pub front : List ℕ
   pub gap : List ℕ
@@ -60,6 +97,15 @@ pub record Reordered (fields : List (List ℕ)) (a b : List ℕ) : Type 0 where
   pub faultless : Faultless a
   pub long : length a ≡ length b
 
--- the same bytes, reordering apart
+-- "the two files have the same bytes, reordering apart"
 abbrev pub SameManifest : List (List ℕ) → List ℕ → List ℕ → Type 0
 SameManifest fields a b = (a ≡ b) ⊎ Reordered fields a b
+
+-- "both have no entry, both a directory or both a file, and at each state 3" two files that are related by R
+pub record Alike {N : Type 0} (R : N → N → Type 0) (A B : Listing N) (c : Consult) : Type 0 where
+  pub kind : stateOf (A (c .path)) ≡ stateOf (B (c .path))
+  pub contents : c .state ≡ 3 → (a b : N) → A (c .path) ≡ fileEntry a → B (c .path) ≡ fileEntry b → R a b
+
+-- "B agrees with A there": at the path of one consult of A's list
+abbrev pub Agrees : List ℕ → List ℕ → List ℕ → Consult → Type 0
+Agrees settings A B c = Alike (SameManifest (settingsOf settings .exportsFields)) (entryAt A) (entryAt B) c
