@@ -6,24 +6,28 @@ use mathlib.Core.List.{List, [], _∷_, _++_, flatMap}
 use native.Mathlib.Omega.{arith}
 use borrow.Author.Tests.{eqb-true, eqb-false, eq-eqb, ne-eqb}
 use lib.Dec.{eqb}
-use lib.ListN.{length, drop, take, getD, length-append, length-take}
-use lib.Seq.{take-append-add, append-snoc}
+use lib.ListN.{length, drop, take, getD, length-append, length-take, drop-of-length-le}
+use lib.Seq.{take-append-add, append-snoc, drop-cons, drop-nil}
 use Rattle.definition.specs.Text.{text, if_then_else_, slash, equal, startsWith, contains, before, after, toFirst, split}
 use Rattle.definition.specs.TextLaws.{before-after, and-true}
 use Rattle.definition.specs.TextSteps.{before-inside}
 use Rattle.definition.specs.Path.{Component, rootDir, curDir, parentDir, normal, component, leading, components}
 use Rattle.definition.specs.Specifier.{packageName, firstIsNormal, isBare, specifier-computes}
 
--- the byte c begins a text, or it does not
-pub starts-here : (c : ℕ) (s : List ℕ) → 0 < length s → getD s 0 0 ≡ c → startsWith (c ∷ []) s ≡ true
+-- the byte c stands at a place, or it does not
+pub starts-at : (c : ℕ) (s : List ℕ) (i : ℕ) → i < length s → getD s i 0 ≡ c → startsWith (c ∷ []) (drop i s) ≡ true
 unfolding startsWith
-starts-here c [] h e = let z : ⊥ = omega arith in absurd z
-starts-here c (b ∷ s) h e = rw (eq-eqb c b (sym e))
+starts-at c s i h e = rw (drop-cons s i 0 h) (simp (eq-eqb _ _ (sym e)))
 
-pub starts-not : (c : ℕ) (s : List ℕ) → (getD s 0 0 ≡ c → ⊥) → startsWith (c ∷ []) s ≡ false
+pub starts-not : (c : ℕ) (s : List ℕ) (i : ℕ) → (getD s i 0 ≡ c → ⊥) → startsWith (c ∷ []) (drop i s) ≡ false
 unfolding startsWith
-starts-not c [] n = refl
-starts-not c (b ∷ s) n = rw (ne-eqb c b (λ e. n (sym e)))
+starts-not c [] i n = rw (drop-nil i)
+starts-not c (b ∷ s) zero n = rw (ne-eqb c b (λ e. n (sym e)))
+starts-not c (b ∷ s) (suc i) n = starts-not c s i n
+
+pub starts-end : (c : ℕ) (s : List ℕ) (i : ℕ) → length s ≤ i → startsWith (c ∷ []) (drop i s) ≡ false
+unfolding startsWith
+starts-end c s i h = rw (drop-of-length-le s h)
 
 -- what stands before the first c is a start of the text; c occurs where it is not the whole
 pub before-take : (c : ℕ) (s : List ℕ) → before c s ≡ take (length (before c s)) s
@@ -87,12 +91,12 @@ module _ (s : List ℕ) where
     name-whole h = let n : contains slash s ≡ false = contains-none slash s (omega arith) in omega (arith, ap length (unscoped (rw n (and-false (startsWith (text "@") s)))))
 
     pub name-plain : (getD s 0 0 ≡ 64 → ⊥) → f ≡ length (packageName s)
-    name-plain n = let z : startsWith (text "@") s ≡ false = starts-not 64 s n in omega (arith, ap length (unscoped (rw z)))
+    name-plain n = let z : startsWith (text "@") s ≡ false = starts-not 64 s 0 n in omega (arith, ap length (unscoped (rw z)))
 
     pub name-scoped : f < length s → getD s 0 0 ≡ 64 → (g : ℕ) → g ≡ f + 1 + length (before slash (drop (f + 1) s)) → g ≡ length (packageName s)
     unfolding after
     name-scoped h a g k =
-        let p : startsWith (text "@") s ≡ true = starts-here 64 s (omega arith) a in
+        let p : startsWith (text "@") s ≡ true = starts-at 64 s 0 (omega arith) a in
         let q : contains slash s ≡ true = there h in
         let n : f + 1 ≡ suc (length (before slash s)) = omega arith in
         omega (arith, ap length (scoped (rw (p, q))), length-append (before slash s) (slash ∷ before slash (after slash s)), rw n at k)
@@ -147,8 +151,8 @@ bare (b ∷ s) = go (eqb b 47) refl
 
     go : (t : Bool) → eqb b 47 ≡ t → isBare (b ∷ s) ≡ bareBytes (b ∷ s)
     go true h =
-        let p : startsWith (text "/") (b ∷ s) ≡ true = starts-here 47 (b ∷ s) (omega arith) (eqb-true b 47 h) in
+        let p : startsWith (text "/") (b ∷ s) ≡ true = starts-at 47 (b ∷ s) 0 (omega arith) (eqb-true b 47 h) in
         simp (p, not-empty b s)
     go false h =
-        let p : startsWith (text "/") (b ∷ s) ≡ false = starts-not 47 (b ∷ s) (eqb-false b 47 h) in
+        let p : startsWith (text "/") (b ∷ s) ≡ false = starts-not 47 (b ∷ s) 0 (eqb-false b 47 h) in
         simp (p, not-empty b s, split-first slash (b ∷ s), before-more slash b s h, first-normal b (before slash s) (otherParts slash (b ∷ s))) (turn (not (equal (b ∷ before slash s) (text "."))) (not (equal (b ∷ before slash s) (text ".."))) (not (startsWith (text "#") (b ∷ s))))

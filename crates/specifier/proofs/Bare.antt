@@ -8,7 +8,7 @@ use lib.ListN.{length, drop, take, getD}
 use Rattle.definition.specs.Text.{text, slash, equal, startsWith, before}
 use Rattle.definition.specs.TextSteps.{equal-lengths}
 use Rattle.definition.specs.Specifier.{isBare}
-use Rattle.definition.specs.SpecifierLaws.{starts-here, starts-not, before-take, bareBytes, bare}
+use Rattle.definition.specs.SpecifierLaws.{starts-at, starts-not, before-take, bareBytes, bare}
 
 pub none : (s : List ℕ) → length s ≡ 0 → isBare s ≡ false
 unfolding bareBytes equal
@@ -19,13 +19,13 @@ module _ (s : List ℕ) (h : length s ≡ 0 → ⊥) where
   pub root : getD s 0 0 ≡ 47 → isBare s ≡ false
   unfolding bareBytes
   root e =
-      let p : startsWith (text "/") s ≡ true = starts-here 47 s (omega arith) e in
+      let p : startsWith (text "/") s ≡ true = starts-at 47 s 0 (omega arith) e in
       bare s ∙ simp (p, and-false)
 
   pub hash : getD s 0 0 ≡ 35 → isBare s ≡ false
   unfolding bareBytes
   hash e =
-      let p : startsWith (text "#") s ≡ true = starts-here 35 s (omega arith) e in
+      let p : startsWith (text "#") s ≡ true = starts-at 35 s 0 (omega arith) e in
       bare s ∙ simp (p, and-false)
 
   module _ (e : ℕ) (at : e ≡ 0 + length (before slash (drop 0 s))) where
@@ -44,8 +44,8 @@ module _ (s : List ℕ) (h : length s ≡ 0 → ⊥) where
     unfolding bareBytes
     yes n k p q =
         let x = equal-lengths s [] h in
-        let y : startsWith (text "/") s ≡ false = starts-not 47 s n in
-        let z : startsWith (text "#") s ≡ false = starts-not 35 s k in
+        let y : startsWith (text "/") s ≡ false = starts-not 47 s 0 n in
+        let z : startsWith (text "#") s ≡ false = starts-not 35 s 0 k in
         let u = rw first at p in
         let v = rw first at q in
         bare s ∙ simp (x, y, z, u, v)

@@ -11,7 +11,7 @@ use lib.ListN.{length, drop, getD, drop-of-length-le}
 use lib.Seq.{drop-cons}
 use Rattle.definition.specs.Text.{hash, startsWith, containsText}
 use Rattle.definition.specs.Specifier.{beforeFragment, body}
-use Rattle.specifier.specs.Scanned.{Scanned}
+use Rattle.specifier.specs.Meaning.{Scanned}
 
 abbrev escape : List ℕ
 escape = 0 ∷ hash ∷ []

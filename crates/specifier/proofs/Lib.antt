@@ -1,3 +1,5 @@
 pub mod Bare
-pub mod Parts
 pub mod Fragment
+pub mod Parts
+pub mod Widening
+pub mod Parsed
