@@ -11,7 +11,7 @@ use Rattle.definition.specs.Path.{dirs}
 use Rattle.definition.specs.Json.{Fault}
 use Rattle.definition.specs.Specifier.{isSpecifier, specifier-computes}
 use Rattle.definition.specs.Listing.{entryAt, isDirectoryOf, rows, height, passes30, passes31, passes32, listing-computes}
-use Rattle.definition.specs.Settings.{Settings, settingsOf, passes24, settings-computes}
+use Rattle.definition.specs.Settings.{Settings, settingsOf, pieces, passes24, settings-computes}
 use Rattle.definition.specs.Ask.{Listing, Consult, Step, answer, log, seen}
 use Rattle.definition.specs.Manifest.{End, endNumber, endTexts, isAnswer, Manifest, view, manifest-computes}
 use Rattle.definition.specs.Walk.{lookup, ending, walk-computes}
@@ -74,6 +74,10 @@ pub record Left : Type 0 where
   pub numbers : List ℕ
   pub list : List ℕ
   pub work : List ℕ
+
+-- the texts of an answer, as its lengths cut them from the result text
+unfoldable pub textsIn : Left → List Text
+textsIn l = pieces (l .lengths) (l .result)
 
 -- a test that refuses with n, and else the next
 abbrev pub check : Bool → ℕ → Option ℕ → Option ℕ

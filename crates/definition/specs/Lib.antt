@@ -16,6 +16,8 @@ pub mod Reordered
 pub mod TextLaws
 pub mod TextSteps
 pub mod SpecifierLaws
+pub mod SettingsLaws
+pub mod PathLaws
 pub mod PathSteps
 pub mod ListingSteps
 pub mod ListingOrder
@@ -24,14 +26,23 @@ pub mod AskLaws
 pub mod KeyOrderLaws
 pub mod FoldLaws
 pub mod ChosenKeyLaws
+pub mod ChosenKey
 pub mod ExportsOrderLaws
 pub mod Local
 pub mod JsonLocal
+pub mod JsonEndLaws
 pub mod JsonStringLaws
+pub mod JsonNumberLaws
+pub mod JsonSoundLaws
+pub mod JsonCompleteLaws
+pub mod JsonGrammarLaws
 pub mod Layout
 pub mod Laid
 pub mod SameMapLaws
 pub mod ReorderedLaws
+pub mod ExportsLaws
+pub mod InsidePackage
+pub mod StringBound
 pub mod FitLaws
 pub mod SkipSteps
 pub mod AgreeLaws
@@ -42,10 +53,12 @@ pub mod LengthBound
 pub mod DepthLaws
 pub mod FoundFile
 pub mod WholeCall
-pub mod ShortPaths
+pub mod CallAgain
+pub mod WalkBounds
 pub mod DemandThree
 -- Examples, by computation
 pub mod Examples
+pub mod JsonExamples
 pub mod ExportsTests
 pub mod ReorderedExample
 pub mod PrintedExample
