@@ -51,6 +51,7 @@ pub mod DemandThree
 -- Examples, by computation
 pub mod Examples
 pub mod ExportsTests
+pub mod LookupExamples
 pub mod ReorderedExample
 pub mod PrintedExample
 pub mod DemandThreeExample
