@@ -12,6 +12,8 @@ pub mod Manifest
 pub mod Walk
 pub mod Called
 pub mod Reordered
+-- What is proved of them
+pub mod Theorems
 -- Laws
 pub mod TextLaws
 pub mod TextSteps

@@ -16,7 +16,7 @@ use Rattle.definition.specs.Walk.{lookup, ending}
 use Rattle.definition.specs.Called.{joined, definition-computes}
 
 -- the directories and the files, separated by spaces; manifests with their paths; start, specifier and settings; and what is printed
-data Case : Type 0 where
+pub data Case : Type 0 where
   asks : (directories files : String) (manifests : List (String × String)) (start specifier : String) (settings : Settings) (printed : String) → Case
 
 -- a condition, an extension, a main field, a main file and an exports field, as in 01's printed example
@@ -55,13 +55,13 @@ shownList (c ∷ l) = code "|" ∷ digits (c .state) ++ 32 ∷ c .path ++ shownL
 shown : End → List Consult → Text
 shown e l = digits (endNumber e) ++ shownTexts e ++ shownList l
 
-holds : Case → Bool
+pub holds : Case → Bool
 holds (asks directories files manifests start specifier G printed) =
     let l = entryIn (map directoryRow (words directories) ++ map fileRow (words files) ++ map manifestRow manifests) in
     let t = lookup G (text start) (text specifier) in
     equal (shown (ending (answer (seen (view G) l) t)) (log (seen (view G) l) t)) (text printed)
 
-rows : List Case
+pub rows : List Case
 rows =
     -- DIFFERENCES 30 to 33: keys
     asks "/ /node_modules /node_modules/a /node_modules/a/g" "/node_modules/a/g/x.js" (("/node_modules/a/package.json", "{\"exports\":{\"./f/\":\"./g/\"}}") ∷ []) "/" "a/f/x.js" standard
@@ -179,6 +179,6 @@ rows =
     "7 /package.json|3 /package.json"
     ∷ []
 
-all-hold : all holds rows ≡ true
+pub all-hold : all holds rows ≡ true
 unfolding definition-computes standard words directoryRow fileRow manifestRow digits spaced shownTexts shownList shown holds rows
 all-hold = refl
