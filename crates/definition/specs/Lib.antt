@@ -17,6 +17,8 @@ pub mod Theorems
 -- Laws
 pub mod TextLaws
 pub mod TextSteps
+pub mod SettingsLaws
+pub mod PathLaws
 pub mod PathSteps
 pub mod ListingSteps
 pub mod ListingOrder
@@ -29,7 +31,12 @@ pub mod ChosenKey
 pub mod ExportsOrderLaws
 pub mod Local
 pub mod JsonLocal
+pub mod JsonEndLaws
 pub mod JsonStringLaws
+pub mod JsonNumberLaws
+pub mod JsonSoundLaws
+pub mod JsonCompleteLaws
+pub mod JsonGrammarLaws
 pub mod Layout
 pub mod Laid
 pub mod SameMapLaws
@@ -52,6 +59,7 @@ pub mod WalkBounds
 pub mod DemandThree
 -- Examples, by computation
 pub mod Examples
+pub mod JsonExamples
 pub mod ExportsTests
 pub mod LookupExamples
 pub mod ReorderedExample

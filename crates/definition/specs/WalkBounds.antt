@@ -12,7 +12,7 @@ use lib.Dec.{leb, ltb}
 use borrow.Author.Tests.{leb-true, le-ltb}
 use Rattle.definition.specs.Text.{Text, text, equal, startsWith, endsWith, contains, count, slash, isUtf8, all, if_then_else_}
 use Rattle.definition.specs.TextLaws.{and-true, equal-true}
-use Rattle.definition.specs.Path.{Built, built, tooLong, normalizeWith, addExtension, addNameAndExtension, manifestOf, parent, dirs}
+use Rattle.definition.specs.Path.{Built, built, tooLong, limited, normalizeWith, addExtension, addNameAndExtension, manifestOf, parent, dirs}
 use Rattle.definition.specs.Specifier.{packageName, packageSubpath, stripPackageName, climbing, dotSubpath, isBare, isSpecifier}
 use Rattle.definition.specs.Listing.{Entry, noEntry, directoryEntry, fileEntry, Row, rows, entryOf, entryIn, entryAt, rowFits, isManifest, sizesFit, passes30, passes31, passes32, isDirectoryOf, accepted}
 use Rattle.definition.specs.Settings.{Settings, settingsOf, passes24}
@@ -27,7 +27,7 @@ use Rattle.definition.specs.BoundLaws.{dir-of}
 use Rattle.definition.specs.DepthLaws.{folder-of, folder-at}
 use Rattle.definition.specs.ExportsLaws.{Strings, StringsOf, Kept, get-has, OptionHas}
 use Rattle.definition.specs.StringBound.{Small, small-strings}
-use Rattle.definition.specs.FitLaws.{Fit, BuiltFits, normalizeWith-fits, addExtension-fits, addNameAndExtension-fits, FailureFits, OutcomeFits, ContextFits, exports-fit, parent-short, AllAtMost, dirs-short, manifest-short, subpath-short, strip-short, dot-short, climbing-short}
+use Rattle.definition.specs.FitLaws.{Fit, BuiltFits, limited-fits, normalizeWith-fits, addExtension-fits, addNameAndExtension-fits, FailureFits, OutcomeFits, ContextFits, exports-fit, parent-short, AllAtMost, dirs-short, manifest-short, subpath-short, strip-short, dot-short, climbing-short}
 use Rattle.definition.specs.DemandThree.{shortest-list}
 
 abbrev Sees : Type 0
@@ -205,6 +205,14 @@ module _ (L : Listing Sees) where
   made-fits (built p) h q e = let x : p ≡ q = cc in rw (← x) h
   made-fits tooLong h q e = no-go e
 
+  made-limited : (x p : Text) → answer L (made (limited x)) ≡ go p → p ≡ x
+  unfolding limited made answer
+  made-limited x p e = by (leb (length x) 2048) e
+    where
+      by : (t : Bool) → answer L (made (if t then built x else tooLong)) ≡ go p → p ≡ x
+      by true e = cc
+      by false e = no-go e
+
   given-go : {A : Type 0} (s : Step Stop A) (a : A) → answer L (given s) ≡ go a → s ≡ go a
   unfolding given answer
   given-go (go b) a e = cc
@@ -233,8 +241,9 @@ module _ (L : Listing Sees) (G : Settings) (sees : (p : Text) (m : Manifest) →
   unfolding nearest
   bounded-nearest from [] s m b = bounded-ret
   bounded-nearest from (d ∷ ds) s m b =
-      bounded-read (record { from = from; directories = s; dir = d; above = m d (List·Memᴰ·head refl); manifest = refl; fits = let y = b .0 in omega (arith, manifest-short d) })
-      (bounded-orAbove d (nearest G ds) _ (b .0) (bounded-nearest from ds s (λ e n. m e (List·Memᴰ·tail n)) (b .1)))
+      bounded-bind (bounded-made (limited (manifestOf d))) (λ p e.
+      bounded-read (record { from = from; directories = s; dir = d; above = m d (List·Memᴰ·head refl); manifest = made-limited L (manifestOf d) p e; fits = made-fits L (limited (manifestOf d)) (limited-fits (manifestOf d)) p e })
+      (bounded-orAbove d (nearest G ds) _ (b .0) (bounded-nearest from ds s (λ e n. m e (List·Memᴰ·tail n)) (b .1))))
 
   good-orAbove : (d : Text) (above : Look (Option Scope)) (p : Text) (o : Option Sees) → contentsOf (L p) ≡ o → length d ≤ 1024 → ((r : Option Scope) → answer L above ≡ go r → Good r)
       → (r : Option Scope) → answer L (orAbove G d above o) ≡ go r → Good r
@@ -248,9 +257,13 @@ module _ (L : Listing Sees) (G : Settings) (sees : (p : Text) (m : Manifest) →
   good-orAbove d above p (some (stop twice)) c h f r e = no-go e
 
   good-nearest : (ds : List Text) → AllAtMost 1024 ds → (r : Option Scope) → answer L (nearest G ds) ≡ go r → Good r
-  unfolding nearest answer
+  unfolding nearest answer made _>>=_
   good-nearest [] b r e = let x : none ≡ r = cc in record { scope = λ s y. absurd (let z : _≡_ {A = ℕ} 0 1 = cc in omega arith) }
-  good-nearest (d ∷ ds) b r e = good-orAbove d (nearest G ds) (manifestOf d) (contentsOf (L (manifestOf d))) refl (b .0) (good-nearest ds (b .1)) r e
+  good-nearest (d ∷ ds) b r e = by (limited (manifestOf d)) (good-nearest ds (b .1)) e
+    where
+      by : (p : Built) → ((r : Option Scope) → answer L (nearest G ds) ≡ go r → Good r) → answer L (made p >>= λ q. read q (orAbove G d (nearest G ds))) ≡ go r → Good r
+      by (built q) f e = good-orAbove d (nearest G ds) q (contentsOf (L q)) refl (b .0) f r e
+      by tooLong f e = no-go e
 
   dirs-low : (d : Text) → length d ≤ 1024 → AllAtMost 1024 (dirs d)
   dirs-low d h = dirs-short 1024 d h (omega arith)
