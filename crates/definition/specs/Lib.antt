@@ -12,6 +12,8 @@ pub mod Manifest
 pub mod Walk
 pub mod Called
 pub mod Reordered
+-- What is proved of them
+pub mod Theorems
 -- Laws
 pub mod TextLaws
 pub mod TextSteps
@@ -60,6 +62,7 @@ pub mod DemandThree
 pub mod Examples
 pub mod JsonExamples
 pub mod ExportsTests
+pub mod LookupExamples
 pub mod ReorderedExample
 pub mod PrintedExample
 pub mod DemandThreeExample

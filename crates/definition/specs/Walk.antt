@@ -90,7 +90,7 @@ pub record Scope : Type 0 where
   pub dir : Text
   pub manifest : Manifest
 
--- LOAD_AS_DIRECTORY(X), 1.b and 1.c: an empty main field means the directory itself (DIFFERENCES 65), and one that begins with "/" is
+-- LOAD_AS_DIRECTORY(X), 1.b and 1.c: an empty main field means the directory itself (DIFFERENCES 63), and one that begins with "/" is
 -- taken below the directory
 unfoldable pub mainPath : Text → Text
 mainPath m = if equal m [] || startsWith (text "/") m then text "./" ++ m else m
@@ -136,7 +136,7 @@ module _ (G : Settings) where
     when b (end (found w))
 
   -- 2. If X.js is a file, load X.js. STOP. 3. and 4. likewise for X.json and X.node; here for each extension of the settings
-  -- (DIFFERENCES 62)
+  -- (DIFFERENCES 61)
   unfoldable pub tryExtension : Place → Text → Look (Unit {0})
   tryExtension w x = do
     q ← made (addExtension (w .path) x)
@@ -148,7 +148,7 @@ module _ (G : Settings) where
     forEach (G .extensions) (tryExtension w)
 
   -- LOAD_INDEX(X): 1. If X/index.js is a file, load X/index.js. STOP. 2. and 3. likewise for X/index.json and X/index.node; here for each
-  -- main file of the settings with each extension (DIFFERENCES 62)
+  -- main file of the settings with each extension (DIFFERENCES 61)
   unfoldable pub tryIndex : Place → Text → Text → Look (Unit {0})
   tryIndex w f x = do
     q ← made (addNameAndExtension (w .path) f x)
@@ -168,10 +168,10 @@ module _ (G : Settings) where
   unfoldable pub LOAD-AS-DIRECTORY : Place → Look (Unit {0})
   LOAD-AS-DIRECTORY w = do
     -- 1. If X/package.json is a file: a. Parse X/package.json, and look for "main" field (for each main field of the settings that is a
-    -- string: DIFFERENCES 64)
+    -- string: DIFFERENCES 62)
     o ← own (w .path)
     perhaps o λ m. forEach (G .mainFields) λ f. perhaps (m .main f) (loadMain w)
-    -- 1.f. LOAD_INDEX(X) DEPRECATED. g. THROW "not found" is left out (DIFFERENCES 66). 2. LOAD_INDEX(X)
+    -- 1.f. LOAD_INDEX(X) DEPRECATED. g. THROW "not found" is left out (DIFFERENCES 64). 2. LOAD_INDEX(X)
     LOAD-INDEX w
 
   -- Exports ---------------------------------------------------------------------------------------------------------------------
@@ -187,7 +187,7 @@ module _ (G : Settings) where
     end (notFound spec)
 
   -- LOAD_PACKAGE_EXPORTS(X, DIR), 4. to 6., and LOAD_PACKAGE_SELF(X, DIR), 3., 5. and 6. If "exports" is undefined, return; null is an
-  -- exports field like others (DIFFERENCES 54). The first exports field of the settings that is present counts (DIFFERENCES 55), with the
+  -- exports field like others (DIFFERENCES 55). The first exports field of the settings that is present counts (DIFFERENCES 56), with the
   -- settings' conditions (DIFFERENCES 57). let MATCH = PACKAGE_EXPORTS_RESOLVE(DIR, "." + SUBPATH, ..); RESOLVE_ESM_MATCH(MATCH)
   unfoldable pub byExports : Text → Text → Text → Manifest → Look (Unit {0})
   byExports spec dir sub m = perhaps (m .exports) λ resolve. do
@@ -201,7 +201,7 @@ module _ (G : Settings) where
     perhaps o (byExports spec dir sub)
 
   -- LOAD_PACKAGE_SELF(X, DIR): 4. If the SCOPE/package.json "name" is not the first segment of X, return (a name is any prefix of X
-  -- before "/", "\" or the end: DIFFERENCES 56)
+  -- before "/", "\" or the end: DIFFERENCES 11)
   unfoldable pub inScope : Text → Scope → Look (Unit {0})
   inScope spec s = perhaps (s .manifest .name) λ n. perhaps (stripPackageName spec n) λ sub. byExports spec (s .dir) sub (s .manifest)
 
@@ -247,7 +247,7 @@ module _ (G : Settings) where
     more ← goOn spec name sub q b
     when more (asFileOrDirectory spec name nm)
 
-  -- NODE_MODULES_PATHS(START), 4.: one directory of the climb and the node_modules in it, asked for before it is used; a directory that is
+  -- NODE_MODULES_PATHS(START), 4.: one directory of the climb and the node_modules in it, asked for before it is used (DIFFERENCES 71); a directory that is
   -- itself named node_modules is not skipped, and there are no global folders (DIFFERENCES 70)
   unfoldable pub inDirectory : Text → Text → Text → Text → Look (Unit {0})
   inDirectory spec name sub d = do
@@ -268,7 +268,7 @@ module _ (G : Settings) where
     LOAD-PACKAGE-SELF start spec
     -- 6. LOAD_NODE_MODULES(X, dirname(Y))
     LOAD-NODE-MODULES start spec
-    -- once more under the normalised name where X climbs out of its package (DIFFERENCES 77)
+    -- once more under the normalised name where X climbs out of its package (DIFFERENCES 76)
     perhaps (climbing spec) (LOAD-NODE-MODULES start)
     -- 7. THROW "not found"
     end (notFound spec)
