@@ -6,7 +6,7 @@ ghost use lib.ListN.{length, drop, take};
 ghost use mathlib.Core.Bool.{_&&_, _||_};
 ghost use lib.Dec.{leb};
 ghost use Rattle.definition.specs.Text.{equal, endsWith};
-ghost use Rattle.definition.specs.Exports.{patternKeyCompare, isSubpathKey, starMatch, patternMatch, orOld, withQueryFragment};
+ghost use Rattle.definition.specs.Exports.{PATTERN-KEY-COMPARE, isSubpathKey, starMatch, patternMatch, orOld, withQueryFragment};
 ghost use Rattle.exports.specs.Keys.{rankOf, orderOf, matchOf};
 ghost use Rattle.exports.specs.Contexts.{contextOf};
 
@@ -44,7 +44,7 @@ fn rank_of(key: &[u8]) -> Rank
 
 // The longer base comes first, then a pattern, then the longer key. The empty key comes behind every other.
 fn compare(a: Rank, b: Rank) -> Order
-    ensures { λ r. ⌜ ((k l : List ℕ) → a ≡ rankOf k → b ≡ rankOf l → orderOf r ≡ patternKeyCompare k l) ⌝ }
+    ensures { λ r. ⌜ ((k l : List ℕ) → a ≡ rankOf k → b ≡ rankOf l → orderOf r ≡ PATTERN-KEY-COMPARE k l) ⌝ }
 {
     if a.base > b.base {
         return Order::Less;
@@ -68,7 +68,7 @@ fn compare(a: Rank, b: Rank) -> Order
 }
 
 pub fn pattern_key_compare(a: &[u8], b: &[u8]) -> Order
-    ensures { λ r. ⌜ orderOf r ≡ patternKeyCompare (now (a .entry)) (now (b .entry)) ⌝ }
+    ensures { λ r. ⌜ orderOf r ≡ PATTERN-KEY-COMPARE (now (a .entry)) (now (b .entry)) ⌝ }
 {
     compare(rank_of(a), rank_of(b))
 }
