@@ -1,11 +1,14 @@
 // The exports algorithms of the Node.js documents, as lib.rs has them.
+use path::PathBuf;
 ghost use mathlib.Core.Path.{_≡_};
 ghost use mathlib.Core.List.{List, []};
 ghost use Prim.Native.Nat.{ℕ, _+_, _-_, _≤_, _<_, suc};
 ghost use lib.ListN.{length, drop, take};
 ghost use mathlib.Core.Bool.{_&&_, _||_};
 ghost use lib.Dec.{leb};
-ghost use Rattle.definition.specs.Text.{equal, endsWith};
+ghost use Rattle.definition.specs.Text.{star, equal, endsWith, replace};
+ghost use Rattle.definition.specs.Path.{limited};
+ghost use Rattle.path.specs.Meaning.{pathOf};
 ghost use Rattle.definition.specs.Exports.{PATTERN-KEY-COMPARE, isSubpathKey, starMatch, patternMatch, orOld, withQueryFragment};
 ghost use Rattle.exports.specs.Keys.{rankOf, orderOf, matchOf};
 ghost use Rattle.exports.specs.Contexts.{contextOf};
@@ -202,4 +205,32 @@ impl Context {
         self.flen = put(&mut self.fragment, k, fragment);
         self
     }
+}
+
+// The target with every star replaced by the pattern match.
+fn substitute(t: &[u8], pattern: &[u8]) -> PathBuf
+    ensures { λ r. ⌜ pathOf r ≡ limited (replace star (now (pattern .entry)) (now (t .entry))) ⌝ }
+{
+    let mut bytes = [0u8; 2048];
+    let mut n: usize = 0;
+    let mut i: usize = 0;
+    while i < t.len() {
+        let b = t[i];
+        if b == b'*' {
+            if pattern.len() > 2048 - n {
+                return PathBuf { bytes, len: 2049 };
+            }
+            text::copy_at(&mut bytes, n, pattern);
+            n += pattern.len();
+            i += 1;
+        } else {
+            if n >= 2048 {
+                return PathBuf { bytes, len: 2049 };
+            }
+            bytes[n] = b;
+            n += 1;
+            i += 1;
+        }
+    }
+    PathBuf { bytes, len: n }
 }
