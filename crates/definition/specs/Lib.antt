@@ -15,6 +15,7 @@ pub mod Reordered
 -- Laws
 pub mod TextLaws
 pub mod TextSteps
+pub mod SettingsLaws
 pub mod PathLaws
 pub mod PathSteps
 pub mod ListingSteps
@@ -32,6 +33,8 @@ pub mod JsonEndLaws
 pub mod JsonStringLaws
 pub mod JsonNumberLaws
 pub mod JsonSoundLaws
+pub mod JsonCompleteLaws
+pub mod JsonGrammarLaws
 pub mod Layout
 pub mod Laid
 pub mod SameMapLaws
@@ -51,6 +54,7 @@ pub mod ShortPaths
 pub mod DemandThree
 -- Examples, by computation
 pub mod Examples
+pub mod JsonExamples
 pub mod ExportsTests
 pub mod ReorderedExample
 pub mod PrintedExample

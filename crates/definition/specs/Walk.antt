@@ -6,7 +6,7 @@ use mathlib.Core.List.{List, [], _∷_, _++_}
 use mathlib.Core.Option.{Option, none, some}
 use Prim.Native.Nat.{ℕ}
 use Rattle.definition.specs.Text.{Text, text, if_then_else_, equal, startsWith, endsWith, text-computes}
-use Rattle.definition.specs.Path.{Built, built, tooLong, normalizeWith, addExtension, addNameAndExtension, manifestOf, parent, dirs, path-computes}
+use Rattle.definition.specs.Path.{Built, built, tooLong, limited, normalizeWith, addExtension, addNameAndExtension, manifestOf, parent, dirs, path-computes}
 use Rattle.definition.specs.Specifier.{packageName, packageSubpath, dotSubpath, stripPackageName, climbing, specifier-computes}
 use Rattle.definition.specs.Json.{Fault, malformed, beyond, twice}
 use Rattle.definition.specs.Exports.{Failure, NotFound, JsonError}
@@ -113,7 +113,9 @@ module _ (G : Settings) where
   -- climb goes on through node_modules (DIFFERENCES 58)
   unfoldable pub nearest : List Text → Look (Option Scope)
   nearest [] = ret none
-  nearest (d ∷ ds) = read (manifestOf d) (orAbove d (nearest ds))
+  nearest (d ∷ ds) = do
+    p ← made (limited (manifestOf d))
+    read p (orAbove d (nearest ds))
 
   -- the directory's own manifest, `get_package_json`: the nearest is read, and kept only if it is the directory's own (DIFFERENCES 59)
   unfoldable pub ifOwn : Text → Option Scope → Option Manifest
