@@ -1,17 +1,19 @@
 // The exports algorithms of the Node.js documents, as lib.rs has them.
 use path::PathBuf;
 ghost use mathlib.Core.Path.{_≡_};
-ghost use mathlib.Core.List.{List, []};
+ghost use mathlib.Core.List.{List, [], _++_};
 ghost use Prim.Native.Nat.{ℕ, _+_, _-_, _≤_, _<_, suc};
 ghost use lib.ListN.{length, drop, take};
 ghost use mathlib.Core.Bool.{_&&_, _||_};
 ghost use lib.Dec.{leb};
-ghost use Rattle.definition.specs.Text.{star, equal, endsWith, replace};
+ghost use Rattle.definition.specs.Text.{star, equal, endsWith, isOneOf, replace};
+ghost use Rattle.definition.specs.Settings.{textsOf};
 ghost use Rattle.definition.specs.Path.{limited};
 ghost use Rattle.path.specs.Meaning.{pathOf};
-ghost use Rattle.definition.specs.Exports.{PATTERN-KEY-COMPARE, isSubpathKey, starMatch, patternMatch, orOld, withQueryFragment};
+ghost use Rattle.definition.specs.Exports.{PATTERN-KEY-COMPARE, isSubpathKey, starMatch, patternMatch, orOld, withQueryFragment, Request, target, targetPath, normalizeStringTarget};
 ghost use Rattle.exports.specs.Keys.{rankOf, orderOf, matchOf};
 ghost use Rattle.exports.specs.Contexts.{contextOf};
+ghost use Rattle.exports.specs.Answers.{answerOf, resolved, Asked};
 
 pub enum Order {
     Less,
@@ -233,4 +235,123 @@ fn substitute(t: &[u8], pattern: &[u8]) -> PathBuf
         }
     }
     PathBuf { bytes, len: n }
+}
+
+// Whether the settings name a condition.
+fn is_condition(settings: &[u8], name: &[u8]) -> bool
+    ensures { λ r. ⌜ r ≡ isOneOf (textsOf (now (settings .entry)) 0) (now (name .entry)) ⌝ }
+{
+    let n = settings::count(settings, settings::Kind::Conditions);
+    let mut i = 0;
+    while i < n {
+        let condition = settings::text(settings, settings::Kind::Conditions, i);
+        if text::equal(condition, name) {
+            return true;
+        }
+        i += 1;
+    }
+    false
+}
+
+// How the resolution of a target ended. With the path that was found, or the target that a failure speaks of.
+pub enum Outcome {
+    Found,
+    Nothing,
+    Empty,
+    InvalidTarget,
+    // an empty array: the match, or ".", is not exported
+    NotExportedMatch,
+    NotExported,
+    ConfigMixed,
+    ConfigDirectory,
+    OverLong,
+}
+
+pub struct Answer {
+    pub context: Context,
+    pub path: PathBuf,
+    pub outcome: Outcome,
+}
+
+// The key that leads to a target: without a pattern match, with a star, or a folder.
+pub enum Form {
+    Plain,
+    Starred,
+    Folder,
+}
+
+fn without_path(c: Context, outcome: Outcome) -> Answer
+    ensures { λ r. ⌜ (r .context ≡ c) × (r .outcome ≡ outcome) ⌝ }
+{
+    Answer {
+        context: c,
+        path: PathBuf::new(),
+        outcome,
+    }
+}
+
+// A target, with the match put in, below the package's directory.
+fn target_path(url: &[u8], t: &[u8], c: Context) -> Answer
+    ensures { λ r. ⌜ ((q : Request) → q .packageURL ≡ now (url .entry) → answerOf q r ≡ resolved c (targetPath q (target (now (t .entry))))) ⌝ }
+{
+    if t.len() > 2048 {
+        return without_path(c, Outcome::OverLong);
+    }
+    if path::is_invalid_exports_target(t) {
+        return Answer {
+            context: c,
+            path: PathBuf::from(t),
+            outcome: Outcome::InvalidTarget,
+        };
+    }
+    let path = path::normalize_with(url, t);
+    if path.len > 2048 {
+        return without_path(c, Outcome::OverLong);
+    }
+    Answer {
+        context: c,
+        path,
+        outcome: Outcome::Found,
+    }
+}
+
+fn starred_target(url: &[u8], t: &[u8], pattern: &[u8], c: Context) -> Answer
+    ensures { λ r. ⌜ ((q : Request) → q .packageURL ≡ now (url .entry) → answerOf q r ≡ resolved c (targetPath q (target (replace star (now (pattern .entry)) (now (t .entry)))))) ⌝ }
+{
+    let p = substitute(t, pattern);
+    let n = p.len;
+    if n > 2048 {
+        return without_path(c, Outcome::OverLong);
+    }
+    target_path(url, path::first(&p.bytes, n), c)
+}
+
+fn folder_target(url: &[u8], t: &[u8], pattern: &[u8], c: Context) -> Answer
+    ensures { λ r. ⌜ ((q : Request) → q .packageURL ≡ now (url .entry) → answerOf q r ≡ resolved c (targetPath q (target (now (t .entry) ++ now (pattern .entry))))) ⌝ }
+{
+    let p = PathBuf::from(t).append(pattern);
+    let n = p.len;
+    if n > 2048 {
+        return without_path(c, Outcome::OverLong);
+    }
+    target_path(url, path::first(&p.bytes, n), c)
+}
+
+// `normalize_string_target`, and what it gives.
+fn normalized_target(url: &[u8], form: Form, pattern: &[u8], t: &[u8], c: Context) -> Answer
+    ensures { λ r. ⌜ ((q : Request) → Asked q (now (url .entry)) form (now (pattern .entry)) → answerOf q r ≡ resolved c (targetPath q (normalizeStringTarget (q .key) (now (t .entry)) (q .matched)))) ⌝ }
+{
+    match form {
+        Form::Plain => target_path(url, t, c),
+        Form::Starred => starred_target(url, t, pattern, c),
+        Form::Folder => {
+            if text::contains(t, b'*') {
+                return starred_target(url, t, pattern, c);
+            }
+            if text::ends_with(t, b"/") {
+                return folder_target(url, t, pattern, c);
+            }
+            without_path(c, Outcome::ConfigDirectory)
+        }
+    }
 }
