@@ -39,6 +39,9 @@ pub mod Layout
 pub mod Laid
 pub mod SameMapLaws
 pub mod ReorderedLaws
+pub mod ExportsLaws
+pub mod InsidePackage
+pub mod StringBound
 pub mod FitLaws
 pub mod SkipSteps
 pub mod AgreeLaws
@@ -50,7 +53,7 @@ pub mod DepthLaws
 pub mod FoundFile
 pub mod WholeCall
 pub mod CallAgain
-pub mod ShortPaths
+pub mod WalkBounds
 pub mod DemandThree
 -- Examples, by computation
 pub mod Examples

@@ -1,6 +1,6 @@
 -- LOOKUP OF A BARE NAME: the algorithms of the Node.js documentation, "Modules: CommonJS modules", under their names (a hyphen for each
 -- underscore), with the document's steps as comments. (DIFFERENCES n) marks a place where the Rust parts from them. STOP and THROW are
--- `end`; a routine that comes back has found nothing. Laws: BoundLaws, LengthBound, FoundFile, ShortPaths, TextBound.
+-- `end`; a routine that comes back has found nothing. Laws: LengthBound, FoundFile, WalkBounds.
 use mathlib.Core.Bool.{Bool, true, false, not, _&&_, _||_}
 use mathlib.Core.List.{List, [], _∷_, _++_}
 use mathlib.Core.Option.{Option, none, some}
