@@ -6,8 +6,7 @@ ghost use Prim.Native.Nat.{ℕ, _+_, _-_, _≤_, _<_, suc};
 ghost use lib.ListN.{length, drop, take};
 ghost use mathlib.Core.Bool.{_&&_, _||_};
 ghost use lib.Dec.{leb};
-ghost use Rattle.definition.specs.Text.{star, equal, endsWith, isOneOf, replace};
-ghost use Rattle.definition.specs.Settings.{textsOf};
+ghost use Rattle.definition.specs.Text.{star, equal, endsWith, replace};
 ghost use Rattle.definition.specs.Path.{limited};
 ghost use Rattle.path.specs.Meaning.{pathOf};
 ghost use Rattle.definition.specs.Exports.{PATTERN-KEY-COMPARE, isSubpathKey, starMatch, patternMatch, orOld, withQueryFragment, Request, target, targetPath, normalizeStringTarget};
@@ -235,22 +234,6 @@ fn substitute(t: &[u8], pattern: &[u8]) -> PathBuf
         }
     }
     PathBuf { bytes, len: n }
-}
-
-// Whether the settings name a condition.
-fn is_condition(settings: &[u8], name: &[u8]) -> bool
-    ensures { λ r. ⌜ r ≡ isOneOf (textsOf (now (settings .entry)) 0) (now (name .entry)) ⌝ }
-{
-    let n = settings::count(settings, settings::Kind::Conditions);
-    let mut i = 0;
-    while i < n {
-        let condition = settings::text(settings, settings::Kind::Conditions, i);
-        if text::equal(condition, name) {
-            return true;
-        }
-        i += 1;
-    }
-    false
 }
 
 // How the resolution of a target ended. With the path that was found, or the target that a failure speaks of.
