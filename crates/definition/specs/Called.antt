@@ -1,17 +1,18 @@
--- THE DEFINITION, on bytes: a listing, settings, a start and a specifier give number and texts, or the lookup's refusal, and the
--- list of consults; and what a whole call leaves in the lent output memory. Assumes nothing.
+-- THE DEFINITION, on bytes: listing, settings, start and specifier give number and texts, or the lookup's refusal, and the list of
+-- consults (demand 2); and what a whole call leaves in the answer and in every lent buffer (demand 1). The theorems: Theorems.
 use Prim.Native.Nat.{ℕ, zero, suc, _+_, _-_, _*_}
 use mathlib.Core.Bool.{Bool, true, false, not, _&&_, _||_}
 use mathlib.Core.List.{List, [], _∷_, _++_, map, flatMap}
 use mathlib.Core.Option.{Option, none, some}
 use lib.ListN.{length, drop, take, replicate}
 use lib.Dec.{eqb, leb, ltb}
-use Rattle.definition.specs.Text.{text, if_then_else_, text-computes, Text}
+use Rattle.definition.specs.Text.{Text, text, if_then_else_, text-computes}
+use Rattle.definition.specs.Path.{dirs}
 use Rattle.definition.specs.Json.{Fault}
 use Rattle.definition.specs.Specifier.{isSpecifier, specifier-computes}
-use Rattle.definition.specs.Ask.{Listing, Consult, Step, answer, log, seen, viewed}
-use Rattle.definition.specs.Listing.{entryAt, isDirectoryOf, passes30, passes31, passes32, listing-computes}
-use Rattle.definition.specs.Settings.{Settings, settingsOf, passes24, settings-computes}
+use Rattle.definition.specs.Listing.{entryAt, isDirectoryOf, rows, height, passes30, passes31, passes32, listing-computes}
+use Rattle.definition.specs.Settings.{Settings, settingsOf, pieces, passes24, settings-computes}
+use Rattle.definition.specs.Ask.{Listing, Consult, Step, answer, log, seen}
 use Rattle.definition.specs.Manifest.{End, endNumber, endTexts, isAnswer, Manifest, view, manifest-computes}
 use Rattle.definition.specs.Walk.{lookup, ending, walk-computes}
 
@@ -22,11 +23,11 @@ pub record Question : Type 0 where
   pub start : List ℕ
   pub specifier : List ℕ
 
--- the listing as the lookup sees it
+-- the listing as the lookup sees it: of a manifest, its view
 unfoldable pub seenBy : Settings → List ℕ → Listing (Step Fault Manifest)
 seenBy G l = seen (view G) (entryAt l)
 
--- the lookup's end, and its list
+-- the lookup's end, and its list of consults, whatever the checks before it say
 unfoldable pub endOf : Question → End
 endOf q = let G = settingsOf (q .settings) in ending (answer (seenBy G (q .listing)) (lookup G (q .start) (q .specifier)))
 
@@ -40,6 +41,23 @@ pub record Defined : Type 0 where
 
 unfoldable pub definition : Question → Defined
 definition q = record { end = endOf q; list = listOf q }
+
+-- 01's formula for the list's length: d directories from the start to "/", h the most from any directory entry to "/", e extensions, f
+-- main files, m main fields; at most d + 2dW
+unfoldable pub W : Settings → ℕ → ℕ
+W G h =
+    let e = length (G .extensions) in
+    let f = length (G .mainFiles) in
+    let m = length (G .mainFields) in
+    6 + 2 * h + 2 * e + f * e + m * (1 + e + f * e)
+
+unfoldable pub formula : Question → ℕ
+formula q =
+    let d = length (dirs (q .start)) in
+    let h = height (rows (q .listing)) in
+    d + 2 * (d * W (settingsOf (q .settings)) h)
+
+-- A whole call --------------------------------------------------------------------------------------------------------------------
 
 -- the lengths of the lent output buffers (list numbers counted in numbers of 32 bits) and of work
 pub record Rooms : Type 0 where
@@ -57,12 +75,16 @@ pub record Left : Type 0 where
   pub list : List ℕ
   pub work : List ℕ
 
+-- the texts of an answer, as its lengths cut them from the result text
+unfoldable pub textsIn : Left → List Text
+textsIn l = pieces (l .lengths) (l .result)
+
 -- a test that refuses with n, and else the next
 abbrev pub check : Bool → ℕ → Option ℕ → Option ℕ
 check true n rest = rest
 check false n rest = some n
 
--- the refusals before the lookup, in 01's order
+-- the refusals before the lookup, in 01's order: 25, 24, 30, 31, 32, 22, 23
 unfoldable pub refusalOf : Question → Rooms → Option ℕ
 refusalOf q m =
     check (leb 32768 (m .work)) 25
@@ -84,10 +106,11 @@ joined (t ∷ ts) = t ++ joined ts
 unfoldable pub paths : List Consult → List Text
 paths l = map (λ c. c .path) l
 
--- count, text length, lengths, states
+-- list numbers: count, text length, lengths, states
 unfoldable pub listNumbers : List Consult → List ℕ
 listNumbers l = length l ∷ length (joined (paths l)) ∷ (map length (paths l) ++ map (λ c. c .state) l)
 
+-- a refusal: zeros in all of it
 unfoldable pub zeros : Rooms → ℕ → Left
 zeros m n = record {
   number = n;
@@ -98,6 +121,7 @@ zeros m n = record {
   work = replicate (m .work) 0;
 }
 
+-- an answer: its texts, the list, and zeros behind them
 unfoldable pub written : Rooms → End → List Consult → Left
 written m e l = record {
   number = endNumber e;
@@ -108,7 +132,7 @@ written m e l = record {
   work = replicate (m .work) 0;
 }
 
--- behind the lookup: its refusal, 20, 21, or the answer
+-- behind the lookup: its refusal; 20, the result text is too short; 21, the list numbers or the list text are too short; or the answer
 unfoldable pub delivered : Rooms → End → List Consult → Left
 delivered m e l =
     if not (isAnswer e) then zeros m (endNumber e) else
@@ -124,5 +148,5 @@ unfoldable pub called : Question → Rooms → Left
 called q m = unlessRefused m (refusalOf q m) (delivered m (endOf q) (listOf q))
 
 unfoldable pub definition-computes : Unit {0}
-unfolding text-computes specifier-computes listing-computes settings-computes manifest-computes walk-computes seen viewed seenBy endOf listOf refusalOf padded joined paths listNumbers zeros written delivered unlessRefused called
+unfolding text-computes specifier-computes listing-computes settings-computes manifest-computes walk-computes seenBy endOf listOf refusalOf padded joined paths listNumbers zeros written delivered unlessRefused called
 definition-computes = tt

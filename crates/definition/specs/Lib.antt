@@ -12,9 +12,14 @@ pub mod Manifest
 pub mod Walk
 pub mod Called
 pub mod Reordered
+-- What is proved of them
+pub mod Theorems
 -- Laws
 pub mod TextLaws
 pub mod TextSteps
+pub mod SpecifierLaws
+pub mod SettingsLaws
+pub mod PathLaws
 pub mod PathSteps
 pub mod ListingSteps
 pub mod ListingNames
@@ -24,13 +29,23 @@ pub mod AskLaws
 pub mod KeyOrderLaws
 pub mod FoldLaws
 pub mod ChosenKeyLaws
+pub mod ChosenKey
 pub mod ExportsOrderLaws
 pub mod Local
 pub mod JsonLocal
+pub mod JsonEndLaws
+pub mod JsonStringLaws
+pub mod JsonNumberLaws
+pub mod JsonSoundLaws
+pub mod JsonCompleteLaws
+pub mod JsonGrammarLaws
 pub mod Layout
 pub mod Laid
 pub mod SameMapLaws
 pub mod ReorderedLaws
+pub mod ExportsLaws
+pub mod InsidePackage
+pub mod StringBound
 pub mod FitLaws
 pub mod SkipSteps
 pub mod AgreeLaws
@@ -41,11 +56,14 @@ pub mod LengthBound
 pub mod DepthLaws
 pub mod FoundFile
 pub mod WholeCall
-pub mod ShortPaths
+pub mod CallAgain
+pub mod WalkBounds
 pub mod DemandThree
 -- Examples, by computation
 pub mod Examples
+pub mod JsonExamples
 pub mod ExportsTests
+pub mod LookupExamples
 pub mod ReorderedExample
 pub mod PrintedExample
 pub mod DemandThreeExample

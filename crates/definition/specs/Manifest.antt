@@ -1,5 +1,5 @@
 -- WHAT A LOOKUP SEES OF A MANIFEST: a fault, or its name, the text of a main field, and what its first exports field gives for a
--- package directory and a subpath. Assumes nothing.
+-- package directory and a subpath.
 use Prim.Native.Nat.{ℕ}
 use mathlib.Core.Bool.{Bool, true, false}
 use mathlib.Core.List.{List, [], _∷_}

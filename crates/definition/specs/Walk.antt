@@ -1,11 +1,12 @@
--- LOOKUP OF A BARE NAME, as Node.js's "Modules: CommonJS modules" writes its algorithm ("STOP" is `end`), changed where
--- docs/DIFFERENCES.md names a place. A routine that comes back has found nothing. Assumes nothing.
+-- LOOKUP OF A BARE NAME: the algorithms of the Node.js documentation, "Modules: CommonJS modules", under their names (a hyphen for each
+-- underscore), with the document's steps as comments. (DIFFERENCES n) marks a place where the Rust parts from them. STOP and THROW are
+-- `end`; a routine that comes back has found nothing. Laws: LengthBound, FoundFile, WalkBounds.
 use mathlib.Core.Bool.{Bool, true, false, not, _&&_, _||_}
 use mathlib.Core.List.{List, [], _∷_, _++_}
 use mathlib.Core.Option.{Option, none, some}
 use Prim.Native.Nat.{ℕ}
-use Rattle.definition.specs.Text.{text, if_then_else_, equal, startsWith, endsWith, text-computes, Text}
-use Rattle.definition.specs.Path.{Built, built, tooLong, normalizeWith, addExtension, addNameAndExtension, manifestOf, parent, dirs, path-computes}
+use Rattle.definition.specs.Text.{Text, text, if_then_else_, equal, startsWith, endsWith, text-computes}
+use Rattle.definition.specs.Path.{Built, built, tooLong, limited, normalizeWith, addExtension, addNameAndExtension, manifestOf, parent, dirs, path-computes}
 use Rattle.definition.specs.Specifier.{packageName, packageSubpath, dotSubpath, stripPackageName, climbing, specifier-computes}
 use Rattle.definition.specs.Json.{Fault, malformed, beyond, twice}
 use Rattle.definition.specs.Exports.{Failure, NotFound, JsonError}
@@ -16,7 +17,8 @@ use Rattle.definition.specs.Manifest.{Refusal, manifestBeyond, nameTwice
 abbrev pub Look : Type 0 → Type 0
 Look A = Ask End (Step Fault Manifest) A
 
--- Control
+-- Control -------------------------------------------------------------------------------------------------------------------------
+
 unfoldable pub when : Bool → Look (Unit {0}) → Look (Unit {0})
 when true m = m
 when false m = ret tt
@@ -43,7 +45,8 @@ given (stop e) = end (stopped e)
 unfoldable pub never : Look ⊥ → Look (Unit {0})
 never m = m >>= λ x. absurd x
 
--- Questions
+-- Questions and paths -------------------------------------------------------------------------------------------------------------
+
 unfoldable pub isFileState : State → Bool
 isFileState absent = false
 isFileState directory = false
@@ -60,7 +63,7 @@ isFile p = ask p (λ s. ret (isFileState s))
 unfoldable pub isDir : Text → Look Bool
 isDir p = ask p (λ s. ret (isDirState s))
 
--- a path under construction, or 42
+-- a path under construction, or refusal 42
 unfoldable pub made : Built → Look Text
 made (built p) = ret p
 made tooLong = end (stopped (refused pathTooLong))
@@ -75,26 +78,29 @@ bare p = record { path = p; query = []; fragment = [] }
 unfoldable pub notFound : Text → End
 notFound spec = stopped (failed (NotFound spec))
 
--- answer 7 with the manifest's path, or a refusal, where the manifest read has a fault
+-- the manifest read: where it has a fault, answer 7 with its path, or refusal 40 or 41
 unfoldable pub sound : Text → Step Fault Manifest → Look Manifest
 sound p (go m) = ret m
 sound p (stop malformed) = end (stopped (failed (JsonError p)))
 sound p (stop beyond) = end (stopped (refused manifestBeyond))
 sound p (stop twice) = end (stopped (refused nameTwice))
 
--- a directory, with the manifest in it
+-- a package scope: a directory, with the manifest in it
 pub record Scope : Type 0 where
   pub dir : Text
   pub manifest : Manifest
 
--- an empty main field means the directory itself, and one that begins with "/" is taken below it
+-- LOAD_AS_DIRECTORY(X), 1.b and 1.c: an empty main field means the directory itself (DIFFERENCES 63), and one that begins with "/" is
+-- taken below the directory
 unfoldable pub mainPath : Text → Text
 mainPath m = if equal m [] || startsWith (text "/") m then text "./" ++ m else m
 
 module _ (G : Settings) where
-  -- a part of a path: path.rs's normalize_with, and 42
+  -- x below p, by path.rs's normalize_with
   unfoldable pub under : Text → Text → Look Text
   under p x = made (normalizeWith p x)
+
+  -- The nearest manifest --------------------------------------------------------------------------------------------------------
 
   -- the manifest in the directory d, or what the search above it gives
   unfoldable pub orAbove : Text → Look (Option Scope) → Option (Step Fault Manifest) → Look (Option Scope)
@@ -103,12 +109,15 @@ module _ (G : Settings) where
     m ← sound (manifestOf d) m
     ret (some (record { dir = d; manifest = m }))
 
-  -- THE NEAREST MANIFEST of the directories ds: the first present is read
+  -- the closest package scope, `find_package_json`: package.json is consulted in each directory, and the first present is read. The
+  -- climb goes on through node_modules (DIFFERENCES 58)
   unfoldable pub nearest : List Text → Look (Option Scope)
   nearest [] = ret none
-  nearest (d ∷ ds) = read (manifestOf d) (orAbove d (nearest ds))
+  nearest (d ∷ ds) = do
+    p ← made (limited (manifestOf d))
+    read p (orAbove d (nearest ds))
 
-  -- of the directory d itself: another, higher up, is read and dropped
+  -- the directory's own manifest, `get_package_json`: the nearest is read, and kept only if it is the directory's own (DIFFERENCES 59)
   unfoldable pub ifOwn : Text → Option Scope → Option Manifest
   ifOwn d none = none
   ifOwn d (some s) = if equal (s .dir) d then some (s .manifest) else none
@@ -118,102 +127,119 @@ module _ (G : Settings) where
     s ← nearest (dirs d)
     ret (ifOwn d s)
 
-  -- LOAD_AS_FILE(X): 1. If X is a file, load X. STOP
+  -- Files and directories -------------------------------------------------------------------------------------------------------
+
+  -- LOAD_AS_FILE(X): 1. If X is a file, load X as its file extension format. STOP
   unfoldable pub tryFile : Place → Look (Unit {0})
   tryFile w = do
     b ← isFile (w .path)
     when b (end (found w))
 
-  -- LOAD_AS_FILE(X): 2. If X.js is a file, load X.js. STOP (here: each extension of the settings)
+  -- 2. If X.js is a file, load X.js. STOP. 3. and 4. likewise for X.json and X.node; here for each extension of the settings
+  -- (DIFFERENCES 61)
   unfoldable pub tryExtension : Place → Text → Look (Unit {0})
   tryExtension w x = do
     q ← made (addExtension (w .path) x)
     tryFile (at w q)
 
-  unfoldable pub loadAsFile : Place → Look (Unit {0})
-  loadAsFile w = do
+  unfoldable pub LOAD-AS-FILE : Place → Look (Unit {0})
+  LOAD-AS-FILE w = do
     tryFile w
     forEach (G .extensions) (tryExtension w)
 
-  -- LOAD_INDEX(X): 1. If X/index.js is a file, load X/index.js. STOP (here: each main file with each extension)
+  -- LOAD_INDEX(X): 1. If X/index.js is a file, load X/index.js. STOP. 2. and 3. likewise for X/index.json and X/index.node; here for each
+  -- main file of the settings with each extension (DIFFERENCES 61)
   unfoldable pub tryIndex : Place → Text → Text → Look (Unit {0})
   tryIndex w f x = do
     q ← made (addNameAndExtension (w .path) f x)
     tryFile (at w q)
 
-  unfoldable pub loadIndex : Place → Look (Unit {0})
-  loadIndex w = forEach (G .mainFiles) λ f. forEach (G .extensions) (tryIndex w f)
+  unfoldable pub LOAD-INDEX : Place → Look (Unit {0})
+  LOAD-INDEX w = forEach (G .mainFiles) λ f. forEach (G .extensions) (tryIndex w f)
 
-  -- LOAD_AS_DIRECTORY(X): 1. c. let M = X + (json main field), d. LOAD_AS_FILE(M), e. LOAD_INDEX(M)
+  -- LOAD_AS_DIRECTORY(X): 1.c. let M = X + (json main field). d. LOAD_AS_FILE(M). e. LOAD_INDEX(M)
   unfoldable pub loadMain : Place → Text → Look (Unit {0})
   loadMain w main = do
     q ← under (w .path) (mainPath main)
-    loadAsFile (at w q)
-    loadIndex (at w q)
+    LOAD-AS-FILE (at w q)
+    LOAD-INDEX (at w q)
 
-  -- LOAD_AS_DIRECTORY(X): 1. If X/package.json is a file, a. look for "main". 2. LOAD_INDEX(X)
-  unfoldable pub loadAsDirectory : Place → Look (Unit {0})
-  loadAsDirectory w = do
+  -- LOAD_AS_DIRECTORY(X)
+  unfoldable pub LOAD-AS-DIRECTORY : Place → Look (Unit {0})
+  LOAD-AS-DIRECTORY w = do
+    -- 1. If X/package.json is a file: a. Parse X/package.json, and look for "main" field (for each main field of the settings that is a
+    -- string: DIFFERENCES 62)
     o ← own (w .path)
     perhaps o λ m. forEach (G .mainFields) λ f. perhaps (m .main f) (loadMain w)
-    loadIndex w
+    -- 1.f. LOAD_INDEX(X) DEPRECATED. g. THROW "not found" is left out (DIFFERENCES 64). 2. LOAD_INDEX(X)
+    LOAD-INDEX w
 
-  -- RESOLVE_ESM_MATCH(MATCH): 2. If the file at RESOLVED_PATH exists, load it. STOP 3. THROW "not found"
-  unfoldable pub resolveEsmMatch : Text → Place → Look ⊥
-  resolveEsmMatch spec w = do
-    loadAsFile w
+  -- Exports ---------------------------------------------------------------------------------------------------------------------
+
+  -- RESOLVE_ESM_MATCH(MATCH)
+  unfoldable pub RESOLVE-ESM-MATCH : Text → Place → Look ⊥
+  RESOLVE-ESM-MATCH spec w = do
+    -- 2. If the file at RESOLVED_PATH exists, load it. STOP; with extensions and as a directory too (DIFFERENCES 60)
+    LOAD-AS-FILE w
     b ← isDir (w .path)
-    when b (loadAsDirectory w)
+    when b (LOAD-AS-DIRECTORY w)
+    -- 3. THROW "not found"
     end (notFound spec)
 
-  -- what exports give is loaded
+  -- LOAD_PACKAGE_EXPORTS(X, DIR), 4. to 6., and LOAD_PACKAGE_SELF(X, DIR), 3., 5. and 6. If "exports" is undefined, return; null is an
+  -- exports field like others (DIFFERENCES 55). The first exports field of the settings that is present counts (DIFFERENCES 56), with the
+  -- settings' conditions (DIFFERENCES 57). let MATCH = PACKAGE_EXPORTS_RESOLVE(DIR, "." + SUBPATH, ..); RESOLVE_ESM_MATCH(MATCH)
   unfoldable pub byExports : Text → Text → Text → Manifest → Look (Unit {0})
   byExports spec dir sub m = perhaps (m .exports) λ resolve. do
     w ← given (resolve dir (dotSubpath sub))
-    never (resolveEsmMatch spec w)
+    never (RESOLVE-ESM-MATCH spec w)
 
-  -- LOAD_PACKAGE_EXPORTS(X, DIR)
-  unfoldable pub loadPackageExports : Text → Text → Text → Look (Unit {0})
-  loadPackageExports spec sub dir = do
+  -- LOAD_PACKAGE_EXPORTS(X, DIR), where dir is DIR/NAME: 2. If DIR/NAME/package.json is not a file, return. 3. Parse it
+  unfoldable pub LOAD-PACKAGE-EXPORTS : Text → Text → Text → Look (Unit {0})
+  LOAD-PACKAGE-EXPORTS spec sub dir = do
     o ← own dir
     perhaps o (byExports spec dir sub)
 
-  -- LOAD_PACKAGE_SELF(X, DIR): 1. Find the closest package scope SCOPE to DIR. 4. If the "name" is not the first segment of X, return.
+  -- LOAD_PACKAGE_SELF(X, DIR): 4. If the SCOPE/package.json "name" is not the first segment of X, return (a name is any prefix of X
+  -- before "/", "\" or the end: DIFFERENCES 11)
   unfoldable pub inScope : Text → Scope → Look (Unit {0})
   inScope spec s = perhaps (s .manifest .name) λ n. perhaps (stripPackageName spec n) λ sub. byExports spec (s .dir) sub (s .manifest)
 
-  unfoldable pub loadPackageSelf : Text → Text → Look (Unit {0})
-  loadPackageSelf start spec = do
+  -- 1. Find the closest package scope SCOPE to DIR. 2. If no scope was found, return
+  unfoldable pub LOAD-PACKAGE-SELF : Text → Text → Look (Unit {0})
+  LOAD-PACKAGE-SELF start spec = do
     s ← nearest (dirs start)
     perhaps s (inScope spec)
 
-  -- LOAD_NODE_MODULES(X, START), at the package's directory q: a. LOAD_PACKAGE_EXPORTS(X, DIR). Whether to go on to b and c:
-  -- not for a subpath of what is no directory, nor where a scope's directory is none
+  -- node_modules ----------------------------------------------------------------------------------------------------------------
+
+  -- LOAD_NODE_MODULES(X, START), 2., at the package's directory q, b telling whether it is one: a. LOAD_PACKAGE_EXPORTS(X, DIR); and
+  -- whether to go on to b. and c. Where q is no directory, not for a subpath, nor where a scope's directory is none (DIFFERENCES 73)
   unfoldable pub inScopeDir : Text → Bool → Look Bool
   inScopeDir q true = isDir (parent q)
   inScopeDir q false = ret true
 
   unfoldable pub goOn : Text → Text → Text → Text → Bool → Look Bool
   goOn spec name sub q true = do
-    loadPackageExports spec sub q
+    LOAD-PACKAGE-EXPORTS spec sub q
     ret true
   goOn spec name [] q false = inScopeDir q (startsWith (text "@") name)
   goOn spec name (x ∷ xs) q false = ret false
 
-  -- c. LOAD_AS_DIRECTORY(DIR/X), and LOAD_AS_FILE(DIR/X) where it is no directory
+  -- c. LOAD_AS_DIRECTORY(DIR/X) where it is a directory, and else b. LOAD_AS_FILE(DIR/X), whether it was tried or not (DIFFERENCES 72)
   unfoldable pub asDirectory : Place → Bool → Look (Unit {0})
-  asDirectory w true = loadAsDirectory w
-  asDirectory w false = loadAsFile w
+  asDirectory w true = LOAD-AS-DIRECTORY w
+  asDirectory w false = LOAD-AS-FILE w
 
-  -- b. LOAD_AS_FILE(DIR/X) for X/sub, c. LOAD_AS_DIRECTORY(DIR/X)
+  -- b. LOAD_AS_FILE(DIR/X), first only for X with a subpath (DIFFERENCES 72) that does not end in "/" (DIFFERENCES 74)
   unfoldable pub asFileOrDirectory : Text → Text → Text → Look (Unit {0})
   asFileOrDirectory spec name nm = do
     q ← under nm spec
-    unless (equal spec name) (unless (endsWith (text "/") spec) (loadAsFile (bare q)))
+    unless (equal spec name) (unless (endsWith (text "/") spec) (LOAD-AS-FILE (bare q)))
     b ← isDir q
     asDirectory (bare q) b
 
-  -- 2. for each DIR in DIRS, at a node_modules directory
+  -- 2. for each DIR in DIRS: nm is DIR, a node_modules directory
   unfoldable pub inModules : Text → Text → Text → Text → Look (Unit {0})
   inModules spec name sub nm = do
     q ← under nm name
@@ -221,6 +247,8 @@ module _ (G : Settings) where
     more ← goOn spec name sub q b
     when more (asFileOrDirectory spec name nm)
 
+  -- NODE_MODULES_PATHS(START), 4.: one directory of the climb and the node_modules in it, asked for before it is used (DIFFERENCES 71); a directory that is
+  -- itself named node_modules is not skipped, and there are no global folders (DIFFERENCES 70)
   unfoldable pub inDirectory : Text → Text → Text → Text → Look (Unit {0})
   inDirectory spec name sub d = do
     b ← isDir d
@@ -229,16 +257,20 @@ module _ (G : Settings) where
       c ← isDir nm
       when c (inModules spec name sub nm)
 
-  -- LOAD_NODE_MODULES(X, START): the climb
-  unfoldable pub loadNodeModules : Text → Text → Look (Unit {0})
-  loadNodeModules start spec = forEach (dirs start) (inDirectory spec (packageName spec) (packageSubpath spec))
+  -- LOAD_NODE_MODULES(X, START)
+  unfoldable pub LOAD-NODE-MODULES : Text → Text → Look (Unit {0})
+  LOAD-NODE-MODULES start spec = forEach (dirs start) (inDirectory spec (packageName spec) (packageSubpath spec))
 
-  -- require(X): 5. LOAD_PACKAGE_SELF, 6. LOAD_NODE_MODULES, here once more for a name that climbs, 7. THROW "not found"
+  -- require(X) from module at path Y, for a bare X: `load_package_self_or_node_modules`
   unfoldable pub lookup : Text → Text → Look ⊥
   lookup start spec = do
-    loadPackageSelf start spec
-    loadNodeModules start spec
-    perhaps (climbing spec) (loadNodeModules start)
+    -- 5. LOAD_PACKAGE_SELF(X, dirname(Y))
+    LOAD-PACKAGE-SELF start spec
+    -- 6. LOAD_NODE_MODULES(X, dirname(Y))
+    LOAD-NODE-MODULES start spec
+    -- once more under the normalised name where X climbs out of its package (DIFFERENCES 76)
+    perhaps (climbing spec) (LOAD-NODE-MODULES start)
+    -- 7. THROW "not found"
     end (notFound spec)
 
 -- how a lookup ends: it never just comes back
@@ -247,5 +279,5 @@ ending (go x) = absurd x
 ending (stop e) = e
 
 unfoldable pub walk-computes : Unit {0}
-unfolding text-computes path-computes specifier-computes ask-computes when unless perhaps forEach given never isFileState isDirState isFile isDir made at bare notFound sound mainPath under orAbove nearest ifOwn own tryFile tryExtension loadAsFile tryIndex loadIndex loadMain loadAsDirectory resolveEsmMatch byExports loadPackageExports inScope loadPackageSelf inScopeDir goOn asDirectory asFileOrDirectory inModules inDirectory loadNodeModules lookup ending
+unfolding text-computes path-computes specifier-computes ask-computes when unless perhaps forEach given never isFileState isDirState isFile isDir made at bare notFound sound mainPath under orAbove nearest ifOwn own tryFile tryExtension LOAD-AS-FILE tryIndex LOAD-INDEX loadMain LOAD-AS-DIRECTORY RESOLVE-ESM-MATCH byExports LOAD-PACKAGE-EXPORTS inScope LOAD-PACKAGE-SELF inScopeDir goOn asDirectory asFileOrDirectory inModules inDirectory LOAD-NODE-MODULES lookup ending
 walk-computes = tt
