@@ -4,7 +4,7 @@ use Prim.Native.Nat.{_-_, _≤_}
 use lib.ListN.{length, drop, take}
 use Rattle.definition.specs.Text.{smaller}
 use Rattle.definition.specs.TextSteps.{smaller-end, larger-here, smaller-next, take-more}
-use Rattle.definition.specs.ListingOrder.{rise-short, rise-here}
+use Rattle.definition.specs.ListingOrder.{smaller-shared, rise-short, rise-here}
 use native.Mathlib.Omega.{arith}
 use Rattle.listing.proofs.rise.Statement.{statement}
 use Rattle.listing.proofs.rise.Tie as tie
@@ -17,9 +17,12 @@ Inv-loop p q i₀ i = (i ≤ length p) × (i ≤ length q) × (take i p ≡ take
 abbrev μ-loop : tie.MeasureT-loop
 μ-loop p q i₀ i = length q - i
 
+shared-requires : tie.Need-shared-requires Inv-loop μ-loop
+shared-requires c κs = search needs
+
 -- src/lib.rt:180:5
 loop-holds : tie.Need-loop-holds Inv-loop μ-loop
-loop-holds c = (search needs, search needs, refl, refl)
+loop-holds c = let s = c .shared .ensures in (s .left, s .right, s .same, smaller-shared _ _ _ (s .same) (s .left) (s .right))
 
 -- src/lib.rt:182:13
 returns : tie.Need-returns Inv-loop μ-loop
@@ -77,6 +80,7 @@ rise-spec =
     (tie.spec
     Inv-loop
     μ-loop
+    shared-requires
     loop-holds
     returns
     returns-2
