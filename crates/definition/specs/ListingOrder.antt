@@ -38,7 +38,7 @@ rest-below x y b e h = rw (eq-eqb x y e, h) (go (ltb x y))
     go true = refl
     go false = refl
 
-pub smaller-trans : (a b c : List ℕ) → smaller a b ≡ true → smaller b c ≡ true → smaller a c ≡ true
+smaller-trans : (a b c : List ℕ) → smaller a b ≡ true → smaller b c ≡ true → smaller a c ≡ true
 unfolding smaller
 smaller-trans a [] c p q = absurd (none a p)
   where
@@ -64,7 +64,7 @@ smaller-self (x ∷ a) h = go (below-cases x x _ h) (smaller-self a)
     go (inl k) ih = omega arith
     go (inr k) ih = ih (k .1)
 
-pub smaller-unequal : (a b : List ℕ) → smaller a b ≡ true → (equal a b ≡ false) × (equal b a ≡ false)
+smaller-unequal : (a b : List ℕ) → smaller a b ≡ true → (equal a b ≡ false) × (equal b a ≡ false)
 smaller-unequal a b h = (go (equal a b) refl, go′ (equal b a) refl)
   where
     go : (t : Bool) → equal a b ≡ t → equal a b ≡ false
@@ -75,7 +75,7 @@ smaller-unequal a b h = (go (equal a b) refl, go′ (equal b a) refl)
     go′ false e = e
     go′ true e = absurd (smaller-self a (rw (equal-true b a e) at h))
 
-pub smaller-prefix : (q : List ℕ) (k : ℕ) → k < length q → smaller (take k q) q ≡ true
+smaller-prefix : (q : List ℕ) (k : ℕ) → k < length q → smaller (take k q) q ≡ true
 unfolding smaller
 smaller-prefix [] k h = let z : ⊥ = omega arith in absurd z
 smaller-prefix (x ∷ q) zero h = refl
@@ -283,7 +283,7 @@ module _ (rs : List Row) (p : Text) (m : List ℕ) (q : Text) (d : Bool) (s : Li
   pub going-no-path : isPath q ≡ false → inOrder rs ≡ false
   going-no-path h = path-wrong rs (sym (g .paths) ∙ all-next pathRow c h)
 
-  pub going-deep : shallow (row q d s) ≡ false → inOrder rs ≡ false
+  going-deep : shallow (row q d s) ≡ false → inOrder rs ≡ false
   going-deep h = depth-wrong rs (sym (g .depths) ∙ all-next shallow c h)
 
   going-orphan : (rising rs ≡ true → parentIsDirectory rs (row q d s) ≡ false) → inOrder rs ≡ false
@@ -507,7 +507,7 @@ cleared-marked j i n k v m m′ g a b c h = record {
 }
 
 -- the marks at the start
-abbrev pub noMarks : ℕ → List ℕ
+abbrev noMarks : ℕ → List ℕ
 noMarks n = replicate n 0
 
 zeros : (n i : ℕ) → getD (noMarks n) i 0 ≡ 0
