@@ -15,32 +15,32 @@ use Rattle.definition.specs.Exports.{Entry, PATTERN-KEY-COMPARE, best}
 use Rattle.definition.specs.Ask.{file, Consult, Step, go, stateOf}
 use Rattle.definition.specs.Manifest.{End, found, isAnswer, Place, resolveExports}
 use Rattle.definition.specs.Walk.{lookup}
-use Rattle.definition.specs.Called.{Question, seenBy, definition, endOf, listOf, formula, Rooms, Left, textsIn, called}
+use Rattle.definition.specs.Called.{Question, seenBy, definition, endOf, listOf, formula, Rooms, Left, textsIn, zeros, called}
 use Rattle.definition.specs.Reordered.{Agrees, Reordered}
-use Rattle.definition.specs.Examples
-use Rattle.definition.specs.LookupExamples
-use Rattle.definition.specs.PrintedExample.{asked, shown, printed, printed-end}
+use Rattle.definition.specs.AnswersMarked
+use Rattle.definition.specs.AnswersLookup
+use Rattle.definition.specs.AnswersPrinted.{asked, shown, printed, printed-end}
 use Rattle.definition.specs.DemandThree.{questionOf, Demand3, demand-3, short-list, shortest-list}
 use Rattle.definition.specs.Laid.{RootLaid, root-laid, MemberLaid, member-laid, same-manifest}
 use Rattle.definition.specs.Reordered.{Piece}
 use Rattle.definition.specs.ChosenKeyLaws.{Functional}
 use Rattle.definition.specs.ChosenKey.{Matches, Chosen, chosen, none-matches, none-chosen, same-in-every-order}
 use Rattle.definition.specs.FoundFile.{FoundIn, found-is-file}
-use Rattle.definition.specs.WholeCall.{Ended, Filled, called-whole}
+use Rattle.definition.specs.CallEnds.{Ended, Filled, called-whole, Reached, refused-with}
 use Rattle.definition.specs.WalkBounds.{Asks, Sought, AllFit, asks-bounded, all-fit, never-20}
 use Rattle.definition.specs.FitLaws.{Fit}
 use Rattle.definition.specs.InsidePackage.{Below, match-inside}
-use Rattle.definition.specs.CallAgain.{isForBuffers, whatever-buffers}
+use Rattle.definition.specs.CallTwice.{isForBuffers, whatever-buffers}
 
 -- 1. EXAMPLES ---------------------------------------------------------------------------------------------------------------------------
 
 -- 01's marked examples, rows of one table
-pub marked-examples : Examples.allHold Examples.rows ≡ true
-marked-examples = Examples.all-hold
+pub marked-examples : AnswersMarked.allHold AnswersMarked.rows ≡ true
+marked-examples = AnswersMarked.all-hold
 
 -- the smallest example of each entry of docs/DIFFERENCES.md, and others: number, texts and list are those that the Rust printed
-pub lookup-examples : all LookupExamples.holds LookupExamples.rows ≡ true
-lookup-examples = LookupExamples.all-hold
+pub lookup-examples : all AnswersLookup.holds AnswersLookup.rows ≡ true
+lookup-examples = AnswersLookup.all-hold
 
 -- 01's printed example, from the bytes of its listing and settings: the answer and the list
 pub printed-answer : endOf asked ≡ found (record { path = text "/p/node_modules/mat/lib/steel.js"; query = []; fragment = [] })
@@ -117,6 +117,10 @@ found-path = found-is-file
 -- with zeros; and every buffer is filled to its end
 pub every-call : (q : Question) (m : Rooms) → Ended m (endOf q) (listOf q) (called q m) × Filled m (called q m)
 every-call = called-whole
+
+-- each refusal but the lookup's own has its condition, in 01's order: 25, 24, 30, 31, 32, 22, 23; behind the lookup 20, then 21
+pub every-refusal : (q : Question) (m : Rooms) (n : ℕ) → Reached q m n → called q m ≡ zeros m n
+every-refusal = refused-with
 
 -- a result text of 6,157 bytes is never too short: a target of 4,096, a key of 1,024 and a manifest's path of 1,037 bytes
 pub room-for-texts : (q : Question) (m : Rooms) → 6157 ≤ m .result → called q m .number ≡ 20 → ⊥

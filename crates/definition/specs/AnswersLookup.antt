@@ -217,6 +217,9 @@ rows =
     -- a manifest that is no JSON
     ∷ asks "/ /node_modules /node_modules/a" "/node_modules/a/index.js" (("/package.json", "{\"a\":}") ∷ []) "/" "a" standard
     "7 /package.json|3 /package.json"
+    -- a directory with no manifest of its own yields before exports are read
+    ∷ asks "/ /node_modules /node_modules/a" "/node_modules/a/index.js /x.js" (("/package.json", "{\"exports\":\"./x.js\"}") ∷ []) "/" "a" standard
+    "0 /node_modules/a/index.js|3 /package.json|1 /|1 /node_modules|1 /node_modules/a|0 /node_modules/a/package.json|0 /node_modules/package.json|3 /package.json|1 /node_modules/a|0 /node_modules/a/package.json|0 /node_modules/package.json|3 /package.json|2 /node_modules/a/index.js"
     ∷ []
 
 pub all-hold : all holds rows ≡ true
