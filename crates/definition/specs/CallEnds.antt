@@ -1,22 +1,22 @@
 -- DEMAND 1 of `called`: its number is one of 01's, it fills each buffer to its end, and a refusal leaves zeros.
-use mathlib.Core.Path.{_≡_, refl, sym, _∙_, ap}
+use mathlib.Core.Path.{_≡_, refl}
 use mathlib.Core.Bool.{Bool, true, false, not, _&&_, _||_, true≢false}
-use mathlib.Core.List.{List, [], _∷_, _++_, map}
-use mathlib.Core.Option.{Option, none, some}
+use mathlib.Core.List.{List}
+use mathlib.Core.Option.{none}
 use mathlib.Core.Logic.{_⊎_, inl, inr}
-use Prim.Native.Nat.{ℕ, zero, suc, _+_, _-_, _≤_, _<_}
+use Prim.Native.Nat.{ℕ, _-_, _≤_, _<_}
 use native.Mathlib.Omega.{arith}
 use lib.ListN.{length, replicate, length-append, length-replicate}
-use lib.Dec.{eqb, leb, ltb}
+use lib.Dec.{leb, ltb}
 use borrow.Author.Tests.{ltb-false, lt-ltb, le-ltb}
-use Rattle.definition.specs.Text.{if_then_else_, Text}
+use Rattle.definition.specs.Text.{if_then_else_}
 use Rattle.definition.specs.TextLaws.{and-true}
 use Rattle.definition.specs.Exports.{Failure, NotFound, Empty, InvalidPackageTarget, PackagePathNotExported, InvalidPackageConfig, InvalidPackageConfigDirectory, JsonError, failureNumber}
 use Rattle.definition.specs.Specifier.{isSpecifier}
 use Rattle.definition.specs.Ask.{Consult}
 use Rattle.definition.specs.Listing.{isDirectoryOf, passes30, passes31, passes32, accepted}
 use Rattle.definition.specs.Settings.{passes24}
-use Rattle.definition.specs.Manifest.{Refusal, manifestBeyond, nameTwice, pathTooLong, refusalNumber, Stop, failed, refused, End, found, stopped, endNumber, endTexts, isAnswer}
+use Rattle.definition.specs.Manifest.{manifestBeyond, nameTwice, pathTooLong, refusalNumber, failed, refused, End, found, stopped, endNumber, endTexts, isAnswer}
 use Rattle.definition.specs.Called.{Question, endOf, listOf, Rooms, Left, check, refusalOf, padded, joined, paths, listNumbers, zeros, written, delivered, unlessRefused, called}
 
 -- 01's answers; its refusals by the caller, by the maker of the listing, by the package author

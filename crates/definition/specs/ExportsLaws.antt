@@ -1,9 +1,8 @@
 -- WHAT THE EXPORTS ALGORITHMS KEEP: an induction over PACKAGE_EXPORTS_RESOLVE, once for all that is proved of what it gives. S holds of
 -- the strings and names of the exports value, C of the context, R of a request, and O of every outcome.
-use mathlib.Core.Path.{_≡_, refl, sym, _∙_, ap}
 use Prim.Native.Nat.{ℕ}
-use mathlib.Core.Bool.{Bool, true, false, not, _&&_, _||_, true≢false, false≢true}
-use mathlib.Core.List.{List, [], _∷_, _++_}
+use mathlib.Core.Bool.{Bool, true, false, _&&_, _||_}
+use mathlib.Core.List.{List}
 use mathlib.Core.Option.{Option, none, some}
 use Rattle.definition.specs.Text.{text, if_then_else_, star, equal, contains, isOneOf, endsWith}
 use Rattle.definition.specs.Path.{manifestOf}

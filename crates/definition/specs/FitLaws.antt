@@ -1,7 +1,7 @@
 -- HOW LONG THE TEXTS ARE: no path that is built has over 2,048 bytes, and the texts of what exports give, a path with query and fragment or
 -- an error, have at most 6,157 together.
-use mathlib.Core.Path.{_≡_, refl, sym, _∙_, ap}
-use Prim.Native.Nat.{ℕ, zero, suc, _+_, _-_, _*_, _≤_, _<_}
+use mathlib.Core.Path.{_≡_, refl, ap}
+use Prim.Native.Nat.{ℕ, zero, suc, _+_, _-_, _*_, _≤_}
 use native.Mathlib.Omega.{arith}
 use mathlib.Core.Bool.{Bool, true, false, not, _&&_, _||_}
 use mathlib.Core.List.{List, [], _∷_, _++_, flatMap}
@@ -15,7 +15,7 @@ use Rattle.definition.specs.TextSteps.{before-inside}
 use Rattle.definition.specs.Path.{Component, rootDir, curDir, parentDir, normal, component, leading, components, push, orRoot, parent, pops, Built, built, tooLong, andPath, limited, pushComponent, pushAll, normalizeOnto, normalizeWith, pushRelative, normalizeRelative, isInvalidExportsTarget, addExtension, addNameAndExtension, manifestOf, depth, climb, dirs}
 use Rattle.definition.specs.Specifier.{Specifier, parsed, emptySpecifier, beforeFragment, unescape, pathBefore, orEmpty, parseSpecifier, packageName, packageSubpath, dotSubpath, stripPackageName, normalizedSpecifier, climbing}
 use Rattle.definition.specs.Json.{Json}
-use Rattle.definition.specs.Exports.{Failure, NotFound, Empty, InvalidPackageTarget, PackagePathNotExported, InvalidPackageConfig, InvalidPackageConfigDirectory, JsonError, failureTexts, Context, Outcome, found, nothing, failed, overlong, Resolved, orOld, withQueryFragment, starMatch, isSubpathKey, patternMatch, Target, target, directoryError, normalizeStringTarget, Request, outcomeOf, invalidTarget, targetPath, stringTarget, orDot, pathNotExported, PACKAGE-EXPORTS-RESOLVE}
+use Rattle.definition.specs.Exports.{Failure, failureTexts, Context, Outcome, found, nothing, failed, overlong, orOld, withQueryFragment, starMatch, isSubpathKey, patternMatch, Target, target, directoryError, Request, outcomeOf, invalidTarget, targetPath, stringTarget, orDot, pathNotExported, PACKAGE-EXPORTS-RESOLVE}
 use Rattle.definition.specs.Called.{joined}
 use Rattle.definition.specs.ExportsLaws.{Strings, Kept, Keeps, exports-kept}
 use Rattle.definition.specs.StringBound.{Small}

@@ -1,6 +1,6 @@
 -- WHAT EXPORTS GIVE IS INSIDE THE PACKAGE: the package's directory, or reached from it by going down one name after another; before
 -- extensions and directories are tried.
-use mathlib.Core.Path.{_≡_, refl, sym, _∙_, ap, subst}
+use mathlib.Core.Path.{_≡_, refl, sym, _∙_, subst}
 use Prim.Native.Nat.{ℕ}
 use native.Mathlib.Omega.{arith}
 use mathlib.Core.Bool.{Bool, true, false, not, _&&_, _||_, true≢false, false≢true}
@@ -10,16 +10,16 @@ use lib.ListN.{length}
 use lib.Dec.{eqb, leb, ltb}
 use borrow.Author.Tests.{eqb-true}
 use Rattle.definition.specs.Text.{Text, text, if_then_else_, slash, star, equal, startsWith, endsWith, contains, split, toFirst, replace}
-use Rattle.definition.specs.TextLaws.{and-true, equal-true}
+use Rattle.definition.specs.TextLaws.{and-true}
 use Rattle.definition.specs.Path.{Component, rootDir, curDir, parentDir, normal, component, leading, components, push, Built, built, tooLong, andPath, limited, pushComponent, pushAll, normalizeOnto, normalizeWith, invalidComponent, anyInvalid, isInvalidExportsTarget}
 use Rattle.definition.specs.Specifier.{Specifier, parsed, emptySpecifier, parseSpecifier}
 use Rattle.definition.specs.Listing.{isComponent}
 use Rattle.definition.specs.Json.{Json, scalar, str, arr, obj, Elements, noElement, element, Members, noMember, member}
-use Rattle.definition.specs.Exports.{Failure, Context, Outcome, found, nothing, failed, overlong, Resolved, Target, target, directoryError, normalizeStringTarget, Request, outcomeOf, invalidTarget, targetPath, stringTarget, pathNotExported, PACKAGE-EXPORTS-RESOLVE}
-use Rattle.definition.specs.Ask.{Step, go}
+use Rattle.definition.specs.Exports.{Context, Outcome, found, nothing, failed, overlong, target, directoryError, normalizeStringTarget, Request, outcomeOf, invalidTarget, targetPath, stringTarget, pathNotExported, PACKAGE-EXPORTS-RESOLVE}
+use Rattle.definition.specs.Ask.{go}
 use Rattle.definition.specs.Settings.{Settings}
 use Rattle.definition.specs.Manifest.{Place, fresh, resolvedTo, resolveExports}
-use Rattle.definition.specs.ExportsLaws.{Strings, StringsIn, StringsOf, Kept, Keeps, exports-kept}
+use Rattle.definition.specs.ExportsLaws.{Strings, StringsIn, StringsOf, Keeps, exports-kept}
 
 -- one name: not empty, neither "." nor "..", and without "/"
 unfoldable pub isName : Text → Bool

@@ -53,7 +53,6 @@ pub mod ExportsLaws
 pub mod InsidePackage
 pub mod StringBound
 pub mod FitLaws
-pub mod SkipSteps
 pub mod AgreeLaws
 pub mod ViewLaws
 pub mod ManifestViewLaws

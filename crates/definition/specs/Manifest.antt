@@ -4,9 +4,9 @@ use Prim.Native.Nat.{ℕ}
 use mathlib.Core.Bool.{Bool, true, false}
 use mathlib.Core.List.{List, [], _∷_}
 use mathlib.Core.Option.{Option, none, some}
-use Rattle.definition.specs.Text.{text, if_then_else_, text-computes, Text}
-use Rattle.definition.specs.Json.{Json, scalar, str, arr, obj, Members, Read, got, Fault, fault, parse, json-computes}
-use Rattle.definition.specs.Exports.{Failure, PackagePathNotExported, failureNumber, failureTexts, Context, Outcome, nothing, overlong, Resolved, Entry, entries, get, pathNotExported, PACKAGE-EXPORTS-RESOLVE, exports-computes}
+use Rattle.definition.specs.Text.{text, text-computes, Text}
+use Rattle.definition.specs.Json.{Json, scalar, str, arr, obj, Read, got, Fault, fault, parse, json-computes}
+use Rattle.definition.specs.Exports.{Failure, PackagePathNotExported, failureNumber, failureTexts, Context, Outcome, nothing, overlong, entries, get, PACKAGE-EXPORTS-RESOLVE, exports-computes}
 use Rattle.definition.specs.Ask.{Step, go, stop}
 use Rattle.definition.specs.Settings.{Settings}
 

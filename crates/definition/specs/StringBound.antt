@@ -1,5 +1,5 @@
 -- EVERY STRING OF A MANIFEST THAT IS READ, and every name of a member, has at most 1,024 bytes.
-use mathlib.Core.Path.{_≡_, refl, sym, _∙_, ap}
+use mathlib.Core.Path.{_≡_, refl}
 use Prim.Native.Nat.{ℕ, zero, suc, _+_, _-_, _≤_}
 use native.Mathlib.Omega.{arith}
 use mathlib.Core.Bool.{Bool, true, false, _||_}
@@ -9,7 +9,7 @@ use lib.ListN.{length, length-append}
 use lib.Dec.{eqb, leb}
 use borrow.Author.Tests.{leb-true}
 use Rattle.definition.specs.Text.{text, if_then_else_, isOneOf, isDigit}
-use Rattle.definition.specs.Json.{Json, scalar, str, arr, obj, Elements, noElement, element, Members, noMember, member, Read, got, Fault, malformed, beyond, twice, fault, andThen, skipSpace, word, skipDigits, digits, sign, exponent, fraction, integer, Place, Step, bad, close, gives, step, goOn, between, string, quoted, startsValue, follow, elements, memberName, colon, members, array, object, valueBy, value, atEnd, document, replaceBom, parse}
+use Rattle.definition.specs.Json.{Json, scalar, noElement, noMember, Read, got, Fault, beyond, fault, andThen, skipSpace, word, skipDigits, digits, sign, exponent, fraction, integer, Place, Step, bad, close, gives, step, goOn, between, string, quoted, startsValue, follow, elements, memberName, colon, members, array, object, valueBy, value, atEnd, document, replaceBom, parse}
 use Rattle.definition.specs.ExportsLaws.{Strings, StringsIn, StringsOf}
 
 -- what a reader gives, if it gives anything, has P

@@ -1,21 +1,20 @@
 -- WHAT IS PROVED OF THE DEFINITION, in one place: each statement in full, with the module that proves it. The definitions that the statements
 -- speak of stand in Called (definition, called, formula), Reordered (demand 3's words), Exports and Walk.
 use mathlib.Core.Path.{_≡_}
-use mathlib.Core.Bool.{Bool, true, false, not}
-use mathlib.Core.List.{List, [], _∷_, _++_, map, List·Memᴰ, List·Permᴰ}
-use mathlib.Core.Option.{Option, none, some}
-use Prim.Native.Nat.{ℕ, _≤_, Ordering, Ordering·gt}
+use mathlib.Core.Bool.{true, false}
+use mathlib.Core.List.{List, [], _∷_, map, List·Memᴰ, List·Permᴰ}
+use mathlib.Core.Option.{none, some}
+use Prim.Native.Nat.{ℕ, _≤_}
 use lib.ListN.{length}
 use Rattle.definition.specs.Text.{Text, text, all}
-use Rattle.definition.specs.Path.{dirs, manifestOf}
 use Rattle.definition.specs.Listing.{accepted, entryAt, isDirectoryOf}
 use Rattle.definition.specs.Settings.{Settings, settingsOf, passes24}
 use Rattle.definition.specs.Json.{Json, obj, Members, member, got, parse}
-use Rattle.definition.specs.Exports.{Entry, PATTERN-KEY-COMPARE, best}
-use Rattle.definition.specs.Ask.{file, Consult, Step, go, stateOf}
-use Rattle.definition.specs.Manifest.{End, found, isAnswer, Place, resolveExports}
+use Rattle.definition.specs.Exports.{Entry, best}
+use Rattle.definition.specs.Ask.{Consult, go}
+use Rattle.definition.specs.Manifest.{found, isAnswer, Place, resolveExports}
 use Rattle.definition.specs.Walk.{lookup}
-use Rattle.definition.specs.Called.{Question, seenBy, definition, endOf, listOf, formula, Rooms, Left, textsIn, zeros, called}
+use Rattle.definition.specs.Called.{Question, seenBy, endOf, listOf, formula, Rooms, textsIn, zeros, called}
 use Rattle.definition.specs.Reordered.{Agrees, Reordered}
 use Rattle.definition.specs.AnswersMarked
 use Rattle.definition.specs.AnswersLookup
