@@ -25,6 +25,7 @@ pub mod Theorems
 -- Laws
 pub mod TextLaws
 pub mod TextSteps
+pub mod SpecifierLaws
 pub mod SettingsLaws
 pub mod PathLaws
 pub mod PathSteps
