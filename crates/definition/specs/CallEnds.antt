@@ -1,6 +1,6 @@
 -- DEMAND 1 of `called`: its number is one of 01's, it fills each buffer to its end, and a refusal leaves zeros.
 use mathlib.Core.Path.{_≡_, refl}
-use mathlib.Core.Bool.{Bool, true, false, not, _&&_, _||_, true≢false}
+use mathlib.Core.Bool.{Bool, true, false, not, _&&_, _||_}
 use mathlib.Core.List.{List}
 use mathlib.Core.Option.{none}
 use mathlib.Core.Logic.{_⊎_, inl, inr}
@@ -10,7 +10,7 @@ use lib.ListN.{length, replicate, length-append, length-replicate}
 use lib.Dec.{leb, ltb}
 use borrow.Author.Tests.{ltb-false, lt-ltb, le-ltb}
 use Rattle.definition.specs.Text.{if_then_else_}
-use Rattle.definition.specs.TextLaws.{and-true}
+use Rattle.definition.specs.TextLaws.{and-true, or-false}
 use Rattle.definition.specs.Exports.{Failure, NotFound, Empty, InvalidPackageTarget, PackagePathNotExported, InvalidPackageConfig, InvalidPackageConfigDirectory, JsonError, failureNumber}
 use Rattle.definition.specs.Specifier.{isSpecifier}
 use Rattle.definition.specs.Ask.{Consult}
@@ -71,10 +71,6 @@ end-listed (stopped (refused pathTooLong)) = (λ h. cc, λ h. refl)
 abbrev Both : Rooms → End → List Consult → Left → Type 0
 Both m e c l = Ended m e c l × Filled m l
 
-or-false : (a b : Bool) → a || b ≡ false → (a ≡ false) × (b ≡ false)
-or-false true b h = (h, absurd (true≢false h))
-or-false false b h = (refl, h)
-
 delivered-whole : (m : Rooms) (e : End) (l : List Consult) → Both m e l (delivered m e l)
 unfolding delivered written isRefusalNumber
 delivered-whole m e l = by (isAnswer e) refl (ltb (m .result) (length (joined (endTexts e)))) refl (ltb (m .numbers) (length (listNumbers l)) || ltb (m .list) (length (joined (paths l)))) refl
@@ -130,9 +126,9 @@ pub data Reached (q : Question) (m : Rooms) : ℕ → Type 0 where
   shortList : refusalOf q m ≡ none → isAnswer (endOf q) ≡ true → length (joined (endTexts (endOf q))) ≤ m .result
       → (m .numbers < length (listNumbers (listOf q))) ⊎ (m .list < length (joined (paths (listOf q)))) → Reached q m 21
 
-or-false-of : (m : Rooms) (l : List Consult) → (m .numbers < length (listNumbers l)) ⊎ (m .list < length (joined (paths l))) → ltb (m .numbers) (length (listNumbers l)) || ltb (m .list) (length (joined (paths l))) ≡ true
-or-false-of m l (inl h) = rw (lt-ltb (m .numbers) (length (listNumbers l)) h)
-or-false-of m l (inr h) = rw (lt-ltb (m .list) (length (joined (paths l))) h) (either (ltb (m .numbers) (length (listNumbers l))))
+either-short : (m : Rooms) (l : List Consult) → (m .numbers < length (listNumbers l)) ⊎ (m .list < length (joined (paths l))) → ltb (m .numbers) (length (listNumbers l)) || ltb (m .list) (length (joined (paths l))) ≡ true
+either-short m l (inl h) = rw (lt-ltb (m .numbers) (length (listNumbers l)) h)
+either-short m l (inr h) = rw (lt-ltb (m .list) (length (joined (paths l))) h) (either (ltb (m .numbers) (length (listNumbers l))))
   where
     either : (u : Bool) → u || true ≡ true
     either true = refl
@@ -152,4 +148,4 @@ refused-with q m n (badManifests a b c d e) = rw (a, b, c, d, e)
 refused-with q m n (badSpecifier a b l f) = let p = listing-parts (q .listing) l in rw (a, b, p .0 .0, p .0 .1, p .1, f)
 refused-with q m n (badStart a b l f g) = let p = listing-parts (q .listing) l in rw (a, b, p .0 .0, p .0 .1, p .1, f, g)
 refused-with q m n (shortResult r a h) = rw (r, a, lt-ltb (m .result) (length (joined (endTexts (endOf q)))) h)
-refused-with q m n (shortList r a h k) = rw (r, a, le-ltb (m .result) (length (joined (endTexts (endOf q)))) h, or-false-of m (listOf q) k)
+refused-with q m n (shortList r a h k) = rw (r, a, le-ltb (m .result) (length (joined (endTexts (endOf q)))) h, either-short m (listOf q) k)

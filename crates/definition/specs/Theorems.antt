@@ -10,7 +10,7 @@ use Rattle.definition.specs.Text.{Text, text, all}
 use Rattle.definition.specs.Listing.{accepted, entryAt, isDirectoryOf}
 use Rattle.definition.specs.Settings.{Settings, settingsOf, passes24}
 use Rattle.definition.specs.Json.{Json, obj, Members, member, got, parse}
-use Rattle.definition.specs.Exports.{Entry, best}
+use Rattle.definition.specs.Exports.{Entry, best, Context, nothing, PACKAGE-EXPORTS-RESOLVE}
 use Rattle.definition.specs.Ask.{Consult, go}
 use Rattle.definition.specs.Manifest.{found, isAnswer, Place, resolveExports}
 use Rattle.definition.specs.Walk.{lookup}
@@ -28,6 +28,7 @@ use Rattle.definition.specs.FoundFile.{FoundIn, found-is-file}
 use Rattle.definition.specs.CallEnds.{Ended, Filled, called-whole, Reached, refused-with}
 use Rattle.definition.specs.WalkBounds.{Asks, Sought, AllFit, asks-bounded, all-fit, never-20}
 use Rattle.definition.specs.FitLaws.{Fit}
+use Rattle.definition.specs.ExportsLaws.{Something, never-nothing}
 use Rattle.definition.specs.InsidePackage.{Below, match-inside}
 use Rattle.definition.specs.CallTwice.{isForBuffers, whatever-buffers}
 
@@ -132,6 +133,11 @@ consulted-paths = all-fit
 -- an exports match is the package's directory or is reached from it by going down, before extensions and directories are tried
 pub exports-match : (G : Settings) (exports : Json) (dir subpath : Text) (w : Place) → resolveExports G exports dir subpath ≡ go w → Below dir (w .path)
 exports-match = match-inside
+
+-- an exports field that is present gives a path, an error or a refusal, and never nothing: no second field is tried
+pub exports-decide : (url : Text) (conditions : List Text) (subpath : Text) (exports : Json) (c : Context) → PACKAGE-EXPORTS-RESOLVE url conditions subpath exports c .outcome ≡ nothing → ⊥
+unfolding Something
+exports-decide = never-nothing
 
 -- two calls of one question that end in none of 20, 21 and 25 have the same number and texts, whatever the buffers
 pub same-question : (q : Question) (m n : Rooms) → isForBuffers (called q m .number) ≡ false → isForBuffers (called q n .number) ≡ false

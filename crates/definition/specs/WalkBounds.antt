@@ -27,7 +27,8 @@ use Rattle.definition.specs.BoundLaws.{dir-of}
 use Rattle.definition.specs.DepthLaws.{folder-of, folder-at}
 use Rattle.definition.specs.ExportsLaws.{Strings, Kept, get-has, OptionHas}
 use Rattle.definition.specs.StringBound.{Small, small-strings}
-use Rattle.definition.specs.FitLaws.{Fit, BuiltFits, limited-fits, normalizeWith-fits, addExtension-fits, addNameAndExtension-fits, FailureFits, OutcomeFits, ContextFits, exports-fit, parent-short, AllAtMost, dirs-short, manifest-short, subpath-short, strip-short, dot-short, climbing-short}
+use Rattle.definition.specs.PathLaws.{parent-short}
+use Rattle.definition.specs.FitLaws.{Fit, BuiltFits, limited-fits, normalizeWith-fits, addExtension-fits, addNameAndExtension-fits, FailureFits, OutcomeFits, ContextFits, exports-fit, AllAtMost, dirs-short, manifest-short, subpath-short, strip-short, dot-short, climbing-short}
 use Rattle.definition.specs.DemandThree.{shortest-list}
 
 abbrev Sees : Type 0
