@@ -17,6 +17,7 @@ use Rattle.definition.specs.Walk.{lookup}
 use Rattle.definition.specs.Called.{Question, seenBy, endOf, listOf, formula, Rooms, textsIn, zeros, called}
 use Rattle.definition.specs.Reordered.{Agrees, Reordered}
 use Rattle.definition.specs.AnswersMarked
+use Rattle.definition.specs.AnswersLimits
 use Rattle.definition.specs.AnswersLookup
 use Rattle.definition.specs.AnswersPrinted.{asked, shown, printed, printed-end}
 use Rattle.definition.specs.DemandThree.{questionOf, Demand3, demand-3, short-list, shortest-list}
@@ -41,6 +42,10 @@ marked-examples = AnswersMarked.all-hold
 -- the smallest example of each entry of docs/DIFFERENCES.md, and others: number, texts and list are those that the Rust printed
 pub lookup-examples : all AnswersLookup.holds AnswersLookup.rows ≡ true
 lookup-examples = AnswersLookup.all-hold
+
+-- a target of 2,048 bytes, one of 2,049, and an array that drops errors and no refusal
+pub limit-examples : AnswersLimits.all AnswersLimits.rows ≡ true
+limit-examples = AnswersLimits.all-hold
 
 -- 01's printed example, from the bytes of its listing and settings: the answer and the list
 pub printed-answer : endOf asked ≡ found (record { path = text "/p/node_modules/mat/lib/steel.js"; query = []; fragment = [] })
