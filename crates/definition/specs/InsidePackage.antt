@@ -16,6 +16,9 @@ use Rattle.definition.specs.Specifier.{Specifier, parsed, emptySpecifier
 use Rattle.definition.specs.Listing.{isComponent}
 use Rattle.definition.specs.Json.{Json, scalar, str, arr, obj, Elements, noElement, element, Members, noMember, member}
 use Rattle.definition.specs.Exports.{Failure, Context, Outcome, found, nothing, failed, overlong, Resolved, Target, target, directoryError, normalizeStringTarget, Request, outcomeOf, invalidTarget, targetPath, stringTarget, pathNotExported, PACKAGE-EXPORTS-RESOLVE}
+use Rattle.definition.specs.Ask.{Step, go}
+use Rattle.definition.specs.Settings.{Settings}
+use Rattle.definition.specs.Manifest.{Place, fresh, resolvedTo, resolveExports}
 use Rattle.definition.specs.ExportsLaws.{Strings, StringsIn, StringsOf, Kept, Keeps, exports-kept}
 
 -- one name: not empty, neither "." nor "..", and without "/"
@@ -222,3 +225,18 @@ pub exports-inside : (url : Text) (conditions : List Text) (subpath : Text) (exp
 exports-inside url conds sub j c p e =
     let k = exports-kept (keeps-inside url) url conds sub refl refl (λ k _. refl) tt tt j c (any-strings j) tt in
     subst (Inside url) e (k .outcome)
+
+-- the same of what a manifest gives: the path is then tried as a file, with extensions and as a directory
+resolved-inside : (c : Context) (dir sub : Text) (o : Outcome) → Inside dir o → (w : Place) → resolvedTo c dir sub o ≡ go w → Below dir (w .path)
+unfolding resolvedTo
+resolved-inside c dir sub (found p) h w e = let x : record { path = p; query = c .query; fragment = c .fragment } ≡ w = cc in rw (← x) h
+resolved-inside c dir sub nothing h w e = absurd (let z : _≡_ {A = ℕ} 0 1 = cc in omega arith)
+resolved-inside c dir sub (failed f) h w e = absurd (let z : _≡_ {A = ℕ} 0 1 = cc in omega arith)
+resolved-inside c dir sub overlong h w e = absurd (let z : _≡_ {A = ℕ} 0 1 = cc in omega arith)
+
+pub match-inside : (G : Settings) (exports : Json) (dir sub : Text) (w : Place) → resolveExports G exports dir sub ≡ go w → Below dir (w .path)
+unfolding resolveExports
+match-inside G j dir sub w e =
+    let k = exports-kept (keeps-inside dir) dir (G .conditions) sub refl refl (λ k _. refl) tt tt j fresh (any-strings j) tt in
+    let r = PACKAGE-EXPORTS-RESOLVE dir (G .conditions) sub j fresh in
+    resolved-inside (r .context) dir sub (r .outcome) (k .outcome) w e

@@ -12,9 +12,12 @@ pub mod Manifest
 pub mod Walk
 pub mod Called
 pub mod Reordered
+-- What is proved of them
+pub mod Theorems
 -- Laws
 pub mod TextLaws
 pub mod TextSteps
+pub mod SpecifierLaws
 pub mod SettingsLaws
 pub mod PathLaws
 pub mod PathSteps
@@ -59,6 +62,7 @@ pub mod DemandThree
 pub mod Examples
 pub mod ExportsTests
 pub mod JsonExamples
+pub mod LookupExamples
 pub mod ReorderedExample
 pub mod PrintedExample
 pub mod DemandThreeExample
