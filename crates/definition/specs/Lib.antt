@@ -61,8 +61,8 @@ pub mod WalkBounds
 pub mod DemandThree
 -- Examples, by computation
 pub mod Examples
-pub mod JsonExamples
 pub mod ExportsTests
+pub mod JsonExamples
 pub mod LookupExamples
 pub mod ReorderedExample
 pub mod PrintedExample
