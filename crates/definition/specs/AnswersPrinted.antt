@@ -1,16 +1,15 @@
 -- 01's printed example, from bytes, by computation.
 use mathlib.Core.Path.{_≡_, refl}
-use mathlib.Core.Bool.{Bool, true, false}
+use mathlib.Core.Bool.{true}
 use mathlib.Core.List.{List, [], _∷_, _++_, map}
-use mathlib.Core.Option.{Option, none, some}
+use mathlib.Core.Option.{none}
 use Prim.Native.Nat.{ℕ, _+_, _*_, _/_, _%_}
-use lib.ListN.{length}
-use Rattle.definition.specs.Text.{text, text-computes, Text}
+use Rattle.definition.specs.Text.{text, Text}
 use Rattle.definition.specs.Ask.{Consult}
-use Rattle.definition.specs.Listing.{accepted, passes30, passes31, passes32, rows, Row, listing-computes}
-use Rattle.definition.specs.Settings.{Settings, passes24, settingsOf, settings-computes}
-use Rattle.definition.specs.Manifest.{End, found}
-use Rattle.definition.specs.Called.{Question, endOf, listOf, Rooms, Left, called, refusalOf, definition-computes}
+use Rattle.definition.specs.Listing.{accepted, listing-computes}
+use Rattle.definition.specs.Settings.{passes24, settings-computes}
+use Rattle.definition.specs.Manifest.{found}
+use Rattle.definition.specs.Called.{Question, endOf, listOf, Rooms, called, refusalOf, definition-computes}
 
 -- a number of 32 bits, low byte first
 num : ℕ → List ℕ → List ℕ

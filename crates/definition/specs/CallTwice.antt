@@ -1,10 +1,10 @@
 -- ONE QUESTION, WHATEVER THE BUFFERS: two calls that end in none of 20, 21 and 25 have the same number and texts.
-use mathlib.Core.Path.{_≡_, refl, sym, _∙_, ap}
-use mathlib.Core.Bool.{Bool, true, false, not, _&&_, _||_, true≢false}
+use mathlib.Core.Path.{_≡_, refl, sym, _∙_}
+use mathlib.Core.Bool.{Bool, true, false, not, _||_, true≢false}
 use mathlib.Core.List.{List, [], _∷_, _++_, map, append-assoc}
 use mathlib.Core.Option.{Option, none, some}
-use Prim.Native.Nat.{ℕ, _+_, _-_}
-use lib.ListN.{length, replicate}
+use Prim.Native.Nat.{ℕ, _+_}
+use lib.ListN.{length}
 use lib.Seq.{take-append-seam, drop-append-seam}
 use lib.Dec.{eqb, leb, ltb}
 use Rattle.definition.specs.Text.{Text, if_then_else_}
@@ -12,7 +12,7 @@ use Rattle.definition.specs.Specifier.{isSpecifier}
 use Rattle.definition.specs.Listing.{isDirectoryOf, passes30, passes31, passes32}
 use Rattle.definition.specs.Settings.{pieces, passes24}
 use Rattle.definition.specs.Ask.{Consult}
-use Rattle.definition.specs.Manifest.{Refusal, Stop, failed, refused, End, found, stopped, endNumber, endTexts, isAnswer}
+use Rattle.definition.specs.Manifest.{failed, refused, End, found, stopped, endNumber, endTexts, isAnswer}
 use Rattle.definition.specs.Called.{Question, endOf, listOf, Rooms, Left, textsIn, check, refusalOf, padded, joined, paths, listNumbers, zeros, written, delivered, unlessRefused, called}
 
 -- a refusal for a buffer that is too short
