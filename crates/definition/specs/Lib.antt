@@ -30,6 +30,7 @@ pub mod SettingsLaws
 pub mod PathLaws
 pub mod PathSteps
 pub mod ListingSteps
+pub mod ListingNames
 pub mod ListingOrder
 pub mod WalkPathLaws
 pub mod AskLaws
@@ -65,3 +66,11 @@ pub mod CallEnds
 pub mod CallTwice
 pub mod WalkBounds
 pub mod DemandThree
+-- Examples, by computation
+pub mod Examples
+pub mod ExportsTests
+pub mod JsonExamples
+pub mod LookupExamples
+pub mod ReorderedExample
+pub mod PrintedExample
+pub mod DemandThreeExample
