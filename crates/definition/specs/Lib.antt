@@ -14,7 +14,7 @@ pub mod Called
 pub mod Reordered
 -- Examples, by computation: a wrong definition is met here first
 pub mod AnswersMarked
-pub mod JsonExamples
+pub mod AnswersJson
 pub mod AnswersLimits
 pub mod AnswersLookup
 pub mod ReorderedExample
