@@ -6,7 +6,7 @@ fn wide(b: u8) -> usize {
     b as usize
 }
 
-// The group's name, and how many of its rows are as expected; or the number of the first that is not.
+// The group's name, and how many of its rows are as expected; or the number of the last that is.
 fn report(name: &[u8], got: usize, rows: usize) {
     io::write_all(STDOUT_FILENO, name);
     if got == rows {
@@ -40,24 +40,34 @@ fn utf8_rows(rows: &[u8], good: bool) -> usize {
     n
 }
 
-// A row as above, one character of two bytes or more: no shorter start of it is UTF-8. The number of these starts.
+// No shorter start of a character is UTF-8, the empty one apart.
+fn cuts_refused(t: &[u8]) -> bool {
+    let mut n: usize = 1;
+    while n < t.len() {
+        if text::is_utf8(&t[0..n]) {
+            return false;
+        }
+        n += 1;
+    }
+    true
+}
+
+// A row as above, one character of two bytes or more.
 fn cut_rows(rows: &[u8]) -> usize {
     let mut n: usize = 0;
-    let mut start: usize = 1;
-    let mut size: usize = 1;
-    while start + size < rows.len() {
-        let end = start + size;
-        let whole = wide(rows[start - 1]);
-        if size < whole {
-            if text::is_utf8(&rows[start..end]) {
-                return n;
-            }
-            n += 1;
-            size += 1;
-        } else {
-            start = end + 1;
-            size = 1;
+    let mut at = 0;
+    while at < rows.len() {
+        let start = at + 1;
+        let size = wide(rows[at]);
+        if size > rows.len() - start {
+            return n;
         }
+        let end = start + size;
+        if !cuts_refused(&rows[start..end]) {
+            return n;
+        }
+        n += 1;
+        at = end;
     }
     n
 }
@@ -65,9 +75,8 @@ fn cut_rows(rows: &[u8]) -> usize {
 // Of the texts of one byte those below 128 are UTF-8.
 fn single_bytes() -> usize {
     let mut n: usize = 0;
-    let mut s = [0u8; 1];
     while n < 256 {
-        s[0] = n as u8;
+        let s = [n as u8; 1];
         if text::is_utf8(&s) != (n < 128) {
             return n;
         }
@@ -106,10 +115,13 @@ fn pair_rows(rows: &[u8]) -> usize {
         let a = at + 4;
         let size = wide(rows[at + 2]);
         let other = wide(rows[at + 3]);
-        if size + other > rows.len() - a {
+        if size > rows.len() - a {
             return n;
         }
         let b = a + size;
+        if other > rows.len() - b {
+            return n;
+        }
         let end = b + other;
         if test(rows[at], &rows[a..b], &rows[b..end]) != (rows[at + 1] == b'y') {
             return n;
@@ -242,7 +254,7 @@ fn utf8() {
         cut_rows(
             b"\x02\xC2\x80\x02\xDF\xBF\x03\xE0\xA0\x80\x03\xE0\xBF\xBF\x03\xE1\x80\x80\x03\xEC\xBF\xBF\x03\xED\x80\x80\x03\xED\x9F\xBF\x03\xEE\x80\x80\x03\xEF\xBF\xBF\x04\xF0\x90\x80\x80\x04\xF0\xBF\xBF\xBF\x04\xF1\x80\x80\x80\x04\xF3\xBF\xBF\xBF\x04\xF4\x80\x80\x80\x04\xF4\x8F\xBF\xBF",
         ),
-        36,
+        16,
     );
     report(
         b"utf8, overlong",
