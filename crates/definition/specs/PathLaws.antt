@@ -1,6 +1,6 @@
 -- Facts about `Path`: the limit, `push`, components from a place on, lengths, the climb. Parents by the last slash: PathSteps.
 use mathlib.Core.Path.{_≡_, refl, sym, _∙_, ap}
-use Prim.Native.Nat.{ℕ, zero, suc, _+_, _-_, _≤_, _<_}
+use Prim.Native.Nat.{ℕ, suc, _+_, _-_, _≤_, _<_}
 use native.Mathlib.Omega.{arith}
 use mathlib.Core.Bool.{Bool, true, false, _&&_, _||_, false≢true}
 use mathlib.Core.Logic.{_⊎_, inl, inr, ⊎-elim}
@@ -12,7 +12,7 @@ use borrow.Author.Tests.{le-leb, lt-leb, leb-true, leb-false, eqb-true, eqb-fals
 use Rattle.definition.specs.Text.{text, if_then_else_, slash, equal, startsWith, endsWith, contains, before, beforeLast, toFirst, split, count, all}
 use Rattle.definition.specs.TextLaws.{equal-true, and-true}
 use Rattle.definition.specs.Listing.{isComponent, isPath}
-use Rattle.definition.specs.PathSteps.{behind, split-at, behind-end, behind-more, starts-with, starts-empty, last-inside, LastAt, last-found, last-missing, count-none}
+use Rattle.definition.specs.PathSteps.{split-at, behind-end, behind-more, starts-with, starts-empty, last-inside, LastAt, last-found, last-missing, count-none}
 use Rattle.definition.specs.Path.{Component, rootDir, curDir, parentDir, normal, component, leading, components, push, orRoot, parent, pops, Built, built, tooLong, andPath, limited, pushComponent, pushAll, normalizeOnto, normalizeWith, pushRelative, normalizeRelative, invalidComponent, anyInvalid, isInvalidExportsTarget, addExtension, depth, climb, dirs}
 
 -- the limit

@@ -1,18 +1,18 @@
 -- The loops over components: one part between slashes, and what is left behind the next slash.
-use mathlib.Core.Path.{_≡_, refl, sym, _∙_, ap}
-use Prim.Native.Nat.{ℕ, zero, suc, _+_, _-_, _≤_, _<_}
+use mathlib.Core.Path.{_≡_, refl, sym, _∙_}
+use Prim.Native.Nat.{ℕ, _+_, _-_, _≤_, _<_}
 use native.Mathlib.Omega.{arith}
 use mathlib.Core.Bool.{Bool, true, false, not, _||_, false≢true}
-use mathlib.Core.List.{List, [], _∷_, _++_, flatMap}
+use mathlib.Core.List.{List, [], _∷_, _++_}
 use lib.ListN.{length, drop, take, getD, length-take}
 use lib.Seq.{take-suc}
 use lib.Dec.{eqb, leb, ltb}
-use borrow.Author.Tests.{ltb-true, ltb-false, leb-true, leb-false, eqb-true, eq-eqb, ne-eqb}
-use Rattle.definition.specs.Text.{text, slash, if_then_else_, equal, startsWith, endsWith, equalIgnoringCase, before, split, text-computes}
+use borrow.Author.Tests.{ltb-true, ltb-false, leb-true, leb-false}
+use Rattle.definition.specs.Text.{text, slash, if_then_else_, equal, startsWith, equalIgnoringCase, before, text-computes}
 use Rattle.definition.specs.TextLaws.{equal-true, startsWith-length}
 use Rattle.definition.specs.TextSteps.{first-inside}
-use Rattle.definition.specs.Path.{Component, parentDir, normal, component, push, parent, pops, Built, built, tooLong, andPath, limited, pushComponent, pushAll, pushRelative, normalizeRelative, invalidComponent, anyInvalid}
-use Rattle.definition.specs.PathLaws.{limited-fits, component-up, component-name, parts, parts-more, parts-last, parts-rooted, rooted, not-rooted, anyInvalid-append, pushAll-append, pushRelative-append, rootOf, relative-parts, parent-short, room, room-high, relative-length}
+use Rattle.definition.specs.Path.{parentDir, normal, component, push, parent, pops, Built, built, tooLong, andPath, limited, pushComponent, pushAll, pushRelative, normalizeRelative, invalidComponent, anyInvalid}
+use Rattle.definition.specs.PathLaws.{limited-fits, component-up, parts, parts-more, parts-last, parts-rooted, rooted, not-rooted, anyInvalid-append, pushAll-append, pushRelative-append, rootOf, relative-parts, parent-short, room, room-high, relative-length}
 use Rattle.definition.specs.PathSteps.{starts-with, starts-empty}
 use Rattle.path.specs.Meaning.{pathAt}
 use Rattle.path.proofs.Steps.{at-fits, at-long}

@@ -1,6 +1,6 @@
 use borrow.Author.Needs.{needs}
 use borrow.Author.Tests.{not-true, not-false}
-use mathlib.Core.Path.{_≡_, sym, _∙_, ap}
+use mathlib.Core.Path.{sym, _∙_, ap}
 use mathlib.Core.Bool.{true≢false}
 use mathlib.Core.Logic.{⊎-elim}
 use Rattle.definition.specs.Path.{pops}
