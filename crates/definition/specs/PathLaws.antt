@@ -1,10 +1,10 @@
 -- Facts about `Path`: the limit, `push`, components from a place on, lengths, the climb. Parents by the last slash: PathSteps.
 use mathlib.Core.Path.{_≡_, refl, sym, _∙_, ap}
-use Prim.Native.Nat.{ℕ, zero, suc, _+_, _-_, _≤_, _<_}
+use Prim.Native.Nat.{ℕ, suc, _+_, _-_, _≤_, _<_}
 use native.Mathlib.Omega.{arith}
-use mathlib.Core.Bool.{Bool, true, false, _&&_, _||_, true≢false, false≢true}
+use mathlib.Core.Bool.{Bool, true, false, _&&_, _||_, false≢true}
 use mathlib.Core.Logic.{_⊎_, inl, inr, ⊎-elim}
-use mathlib.Core.List.{List, [], _∷_, _++_, append-assoc, append-nil, flatMap}
+use mathlib.Core.List.{List, [], _∷_, _++_, append-nil, flatMap}
 use lib.ListN.{length, drop, take, getD, length-append}
 use lib.Seq.{drop-cons, drop-length, getD-take}
 use lib.Dec.{eqb, leb}
@@ -12,7 +12,7 @@ use borrow.Author.Tests.{le-leb, lt-leb, leb-true, leb-false, eqb-true, eqb-fals
 use Rattle.definition.specs.Text.{text, if_then_else_, slash, equal, startsWith, endsWith, contains, before, beforeLast, toFirst, split, count, all}
 use Rattle.definition.specs.TextLaws.{equal-true, and-true}
 use Rattle.definition.specs.Listing.{isComponent, isPath}
-use Rattle.definition.specs.PathSteps.{behind, split-at, behind-end, behind-more, starts-with, starts-empty, last-inside, LastAt, last-found, last-missing}
+use Rattle.definition.specs.PathSteps.{split-at, behind-end, behind-more, starts-with, starts-empty, last-inside, LastAt, last-found, last-missing, count-none}
 use Rattle.definition.specs.Path.{Component, rootDir, curDir, parentDir, normal, component, leading, components, push, orRoot, parent, pops, Built, built, tooLong, andPath, limited, pushComponent, pushAll, normalizeOnto, normalizeWith, pushRelative, normalizeRelative, invalidComponent, anyInvalid, isInvalidExportsTarget, addExtension, depth, climb, dirs}
 
 -- the limit
@@ -326,15 +326,6 @@ normalizeRelative-short p = go (startsWith (text "/") p) p refl
 pub record Rooted (p : List ℕ) : Type 0 where
   pub starts : startsWith (text "/") p ≡ true
   pub single : getD p 1 0 ≡ slash → ⊥
-
-count-none : (c : ℕ) (s : List ℕ) → contains c s ≡ false → count c s ≡ 0
-unfolding contains count
-count-none c [] h = refl
-count-none c (b ∷ s) h = go (eqb b c) h (count-none c s)
-  where
-    go : (u : Bool) → u || contains c s ≡ false → (contains c s ≡ false → count c s ≡ 0) → (if u then 1 else 0) + count c s ≡ 0
-    go true h ih = absurd (true≢false h)
-    go false h ih = let k : count c s ≡ 0 = ih h in omega arith
 
 count-last : (c : ℕ) (s : List ℕ) → contains c s ≡ true → count c s ≡ suc (count c (beforeLast c s))
 unfolding contains count beforeLast
