@@ -5,6 +5,7 @@ pub mod Specifier
 pub mod Listing
 pub mod Settings
 pub mod Json
+pub mod JsonAt
 pub mod JsonGrammar
 pub mod Exports
 pub mod Ask
