@@ -157,9 +157,7 @@ impl PathBuf {
     pub fn from(text: &[u8]) -> PathBuf
         ensures { λ r. ⌜ pathOf r ≡ limited (now (text .entry)) ⌝ }
     {
-        let mut bytes = [0u8; 2048];
-        let len = put(&mut bytes, 0, text);
-        PathBuf { bytes, len }
+        PathBuf::new().append(text)
     }
 
     pub fn over_long(self) -> bool
