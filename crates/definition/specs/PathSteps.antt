@@ -5,11 +5,11 @@ use mathlib.Core.Bool.{Bool, true, false, not, _&&_, _||_, or-true, false≢true
 use mathlib.Core.List.{List, [], _∷_, _++_}
 use native.Mathlib.Omega.{arith}
 use native.Mathlib.Numerals.{add-one}
-use borrow.Author.Tests.{eqb-true, eq-eqb, ne-eqb}
+use borrow.Author.Tests.{eqb-true, eq-eqb}
 use lib.Dec.{eqb, eqb·zero-suc, eqb·suc-suc}
 use lib.ListN.{length, drop, take, getD, drop-of-length-le, length-drop}
-use lib.Seq.{drop-cons, drop-drop, take-suc, take-all, length-take-le, split-at as cut-at}
-use Rattle.definition.specs.Text.{text, if_then_else_, slash, equal, startsWith, contains, count, before, beforeLast, toFirst, split, all, Due, due, bad, isUtf8From, isUtf8, dueAfter, within}
+use lib.Seq.{drop-cons, drop-drop, take-suc, take-all, length-take-le}
+use Rattle.definition.specs.Text.{text, if_then_else_, slash, startsWith, contains, count, before, beforeLast, toFirst, split, all, Due, due, bad, isUtf8From, isUtf8, dueAfter, within}
 use Rattle.definition.specs.TextLaws.{and-true}
 use Rattle.definition.specs.Path.{orRoot, parent, nameOf}
 
@@ -63,11 +63,6 @@ starts-with c (b ∷ p) h = go (eqb c b)
     go : (t : Bool) → t && true ≡ t
     go true = refl
     go false = refl
-
-pub starts-empty : (c : ℕ) (p : List ℕ) → length p ≡ 0 → startsWith (c ∷ []) p ≡ false
-unfolding startsWith
-starts-empty c [] h = refl
-starts-empty c (b ∷ p) h = let z : ⊥ = omega arith in absurd z
 
 -- the parent, by the place k of the last slash
 module _ (p : List ℕ) where
