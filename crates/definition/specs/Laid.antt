@@ -1,19 +1,19 @@
 -- Every faultless manifest is laid out as `Reordered` says: its root's members, and the members of each map among their values, are
 -- pieces with commas between them and white space beside them. So 01's words leave no file out.
 use mathlib.Core.Path.{_≡_, refl, sym, _∙_, ap, subst}
-use Prim.Native.Nat.{ℕ, zero, suc, _+_, _≤_, _<_}
+use Prim.Native.Nat.{ℕ, zero, suc, _+_}
 use native.Mathlib.Omega.{arith}
 use Prim.Native.Char.{code}
-use mathlib.Core.Bool.{Bool, true, false, not, _&&_, _||_, true≢false, false≢true}
+use mathlib.Core.Bool.{Bool, true, false, _||_, true≢false}
 use mathlib.Core.List.{List, [], _∷_, _++_, append-assoc, append-nil}
 use lib.ListN.{length, drop, take, take-append-drop}
 use lib.Dec.{eqb, leb}
 use borrow.Author.Tests.{eqb-true}
 use Rattle.definition.specs.Text.{text, if_then_else_, isOneOf, isDigit, startsWith, skipWhile}
-use Rattle.definition.specs.TextLaws.{startsWith-take, startsWith-length}
-use Rattle.definition.specs.Json.{Json, scalar, str, arr, obj, Members, noMember, member, Elements, Read, got, Fault, malformed, beyond, twice, fault, andThen, word, digits, sign, exponent, fraction, integer, skipDigits, elements, array, isSpace, skipSpace, quoted, follow, memberName, colon, members, object, valueBy, value, atEnd, document, replaceBom, parse}
+use Rattle.definition.specs.TextLaws.{startsWith-take}
+use Rattle.definition.specs.Json.{Json, scalar, str, arr, obj, Members, noMember, member, Elements, Read, got, Fault, beyond, fault, andThen, word, digits, sign, exponent, fraction, integer, skipDigits, elements, array, isSpace, skipSpace, quoted, follow, colon, members, object, valueBy, value, atEnd, document, replaceBom, parse}
 use Rattle.definition.specs.Exports.{Entry, entries}
-use Rattle.definition.specs.Local.{Taken, Local, Any, no-got, Both, andThen-both}
+use Rattle.definition.specs.Local.{Taken, Any, no-got, Both, andThen-both}
 use Rattle.definition.specs.JsonLocal.{Delimited, delimited, quoted-local}
 use Rattle.definition.specs.Layout.{memberAt-local, members-zero, members-old, members-entry, rest-of}
 use Rattle.definition.specs.Reordered.{ObjectText, empty, filled, unchanged, RootReordered, Reordered, memberAt, allSpace, Piece, Layout, entriesOf, lastPiece, nextPiece}

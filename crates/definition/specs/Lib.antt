@@ -5,6 +5,7 @@ pub mod Specifier
 pub mod Listing
 pub mod Settings
 pub mod Json
+pub mod JsonAt
 pub mod JsonGrammar
 pub mod Exports
 pub mod Ask
@@ -12,6 +13,14 @@ pub mod Manifest
 pub mod Walk
 pub mod Called
 pub mod Reordered
+-- Examples, by computation: a wrong definition is met here first
+pub mod AnswersMarked
+pub mod AnswersJson
+pub mod AnswersLimits
+pub mod AnswersLookup
+pub mod ReorderedExample
+pub mod AnswersPrinted
+pub mod DemandThreeExample
 -- What is proved of them
 pub mod Theorems
 -- Laws
@@ -39,6 +48,8 @@ pub mod JsonNumberLaws
 pub mod JsonSoundLaws
 pub mod JsonCompleteLaws
 pub mod JsonGrammarLaws
+pub mod JsonSkipLaws
+pub mod JsonAtLaws
 pub mod Layout
 pub mod Laid
 pub mod SameMapLaws
@@ -47,7 +58,6 @@ pub mod ExportsLaws
 pub mod InsidePackage
 pub mod StringBound
 pub mod FitLaws
-pub mod SkipSteps
 pub mod AgreeLaws
 pub mod ViewLaws
 pub mod ManifestViewLaws
@@ -55,15 +65,7 @@ pub mod BoundLaws
 pub mod LengthBound
 pub mod DepthLaws
 pub mod FoundFile
-pub mod WholeCall
-pub mod CallAgain
+pub mod CallEnds
+pub mod CallTwice
 pub mod WalkBounds
 pub mod DemandThree
--- Examples, by computation
-pub mod Examples
-pub mod JsonExamples
-pub mod ExportsTests
-pub mod LookupExamples
-pub mod ReorderedExample
-pub mod PrintedExample
-pub mod DemandThreeExample
