@@ -475,7 +475,7 @@ fn main() {
         searches_of(
             printed,
             10,
-            b"1/p\n2/p/node_modules/mat/package.json={\"exports\":{\"./*\":\"./\n0/q\n0\n",
+            b"1/p\n2/p/node_modules/mat/package.json={\"exports\":{\"./*\":\"./l\n0/q\n0\n",
         ),
         4,
     );
@@ -484,7 +484,7 @@ fn main() {
         searches_of(
             printed,
             40,
-            b"1/p\n2/p/node_modules/mat/package\n0/p/node_modules/mat/package.json\n",
+            b"1/p\n2/p/node_modules/mat/pack\n0/p/node_modules/mat/package.json\n",
         ),
         3,
     );
