@@ -8,7 +8,7 @@ use mathlib.Core.Logic.{_⊎_, inl, inr}
 use native.Mathlib.Omega.{arith}
 use borrow.Author.Tests.{eqb-true, eq-eqb, ne-eqb, lt-ltb, le-ltb, ltb-true, le-leb, lt-leb, leb-true}
 use lib.Dec.{eqb, leb, ltb}
-use lib.ListN.{length, drop, take, getD, set, length-set, replicate, length-replicate}
+use lib.ListN.{length, drop, take, getD, set, length-set, length-drop, replicate, length-replicate}
 use lib.Seq.{length-take-le, take-length, getD-take, take-take, take-all, getD-set-same, getD-set-other}
 use Rattle.definition.specs.Text.{Text, text, if_then_else_, slash, equal, smaller, count, all}
 use Rattle.definition.specs.TextLaws.{and-true, equal-true, equal-refl}
@@ -134,6 +134,20 @@ module _ (p q : List ℕ) (i : ℕ) (h : i + 4 ≤ length p) (k : i + 4 ≤ leng
       upto (suc n) m =
           let z : i + suc n ≡ i + n + 1 = omega arith in
           rw z (take-more p q (i + n) (omega arith) (omega arith) (upto n (omega arith)) (four n (omega arith)))
+
+-- nor does it decide whether they are equal
+equal-from : (j : ℕ) (a b : List ℕ) → take j a ≡ take j b → j ≤ length a → j ≤ length b → equal (drop j a) (drop j b) ≡ equal a b
+unfolding equal
+equal-from zero a b e h k = refl
+equal-from (suc j) [] b e h k = let z : ⊥ = omega arith in absurd z
+equal-from (suc j) (x ∷ a) [] e h k = let z : ⊥ = omega arith in absurd z
+equal-from (suc j) (x ∷ a) (y ∷ b) e h k = rw (eq-eqb x y (ap head-of e)) (equal-from j a b (ap tail-of e) (omega arith) (omega arith))
+
+pub equal-shared : (a b : List ℕ) (k : ℕ) → Shared a b k → equal (take (length a - k) (drop k a)) (take (length b - k) (drop k b)) ≡ equal a b
+equal-shared a b k s = rw (rest a, rest b) (equal-from k a b (s .same) (s .left) (s .right))
+  where
+    rest : (l : List ℕ) → take (length l - k) (drop k l) ≡ drop k l
+    rest l = take-all (length l - k) (drop k l) (omega (arith, length-drop k l))
 
 -- q is larger than p, and they part at j
 pub record Rise (p q : List ℕ) (j : ℕ) : Type 0 where

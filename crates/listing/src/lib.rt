@@ -119,6 +119,31 @@ fn search_clamped(l: &[u8], n: usize, path: &[u8]) -> Found
     Found::Absent
 }
 
+// Bytes that both texts begin with, counted four at a time.
+fn shared(p: &[u8], q: &[u8]) -> usize
+    ensures { λ r. ⌜ Shared (now (p .entry)) (now (q .entry)) r ⌝ }
+{
+    let mut i = 0;
+    while i + 4 <= p.len() {
+        if i + 4 > q.len() {
+            return i;
+        }
+        if number_at(p, i) != number_at(q, i) {
+            return i;
+        }
+        i += 4;
+    }
+    i
+}
+
+// Equal texts, compared four bytes at a time: two paths of a listing often differ only at their ends.
+fn same(a: &[u8], b: &[u8]) -> bool
+    ensures { λ r. ⌜ r ≡ equal (now (a .entry)) (now (b .entry)) ⌝ }
+{
+    let k = shared(a, b);
+    text::equal(&a[k..], &b[k..])
+}
+
 // The lengths are compared before any byte.
 fn matches(l: &[u8], at: usize, end: usize, path: &[u8]) -> bool
     requires { ⌜ at ≤ end ⌝ }
@@ -130,7 +155,7 @@ fn matches(l: &[u8], at: usize, end: usize, path: &[u8]) -> bool
     if end > l.len() {
         return false;
     }
-    text::equal(&l[at..end], path)
+    same(&l[at..end], path)
 }
 
 // What the path has in the listing. The lengths are added up unclamped: an entry that matches lies within the bytes, and so do
@@ -377,23 +402,6 @@ fn is_name(c: &[u8]) -> bool
 pub enum Parting {
     Up(usize),
     Down,
-}
-
-// Some bytes that both paths begin with, four at a time.
-fn shared(p: &[u8], q: &[u8]) -> usize
-    ensures { λ r. ⌜ Shared (now (p .entry)) (now (q .entry)) r ⌝ }
-{
-    let mut i = 0;
-    while i + 4 <= p.len() {
-        if i + 4 > q.len() {
-            return i;
-        }
-        if number_at(p, i) != number_at(q, i) {
-            return i;
-        }
-        i += 4;
-    }
-    i
 }
 
 fn rise(p: &[u8], q: &[u8]) -> Parting

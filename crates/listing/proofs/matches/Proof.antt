@@ -16,4 +16,4 @@ matches-spec =
     (λ c. search needs)
     (λ c. search needs)
     (λ c κs. search needs)
-    (λ c. c .equal .ensures ∙ sym (match-inside (c .before .before .before .before .before .before .args .l .now) (c .before .before .before .before .before .before .args .at) (c .before .before .before .before .before .before .args .end) (c .before .before .before .before .before .before .args .path .now) (omega (arith, c .before .before .if2 .left)))))
+    (λ c. c .same .ensures ∙ sym (match-inside (c .before .before .before .before .before .before .args .l .now) (c .before .before .before .before .before .before .args .at) (c .before .before .before .before .before .before .args .end) (c .before .before .before .before .before .before .args .path .now) (omega (arith, c .before .before .if2 .left)))))
