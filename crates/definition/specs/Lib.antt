@@ -31,7 +31,7 @@ pub mod SettingsLaws
 pub mod PathLaws
 pub mod PathSteps
 pub mod ListingSteps
-pub mod ListingNames
+pub mod ListingNameLaws
 pub mod ListingOrder
 pub mod WalkPathLaws
 pub mod AskLaws

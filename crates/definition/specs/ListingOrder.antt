@@ -16,7 +16,7 @@ use Rattle.definition.specs.TextSteps.{equal-lengths, smaller-start, sma
 use Rattle.definition.specs.Path.{depth}
 use Rattle.definition.specs.Listing.{number32, noEntry, Row, rows, rowFits, sizesFit, firstIsRoot, passes30, passes31, rising, isManifest, isPath, entryIn, entryOf, isDirectoryEntry, parentIsDirectory, listing-computes}
 use Rattle.definition.specs.ListingSteps.{number-at, at-or-under, row, risingAfter, rising-after, after-next, after-end, all-next, all-end, all-both, entry-hit, entry-miss}
-use Rattle.definition.specs.ListingNames.{isName, Cut, cut-of}
+use Rattle.definition.specs.ListingNameLaws.{isName, Cut, cut-of}
 use Rattle.definition.specs.PathSteps.{LastAt}
 
 -- the order

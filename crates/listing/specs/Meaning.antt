@@ -6,7 +6,7 @@ use Prim.Native.Nat.{ℕ, _+_, _≤_}
 use lib.ListN.{length}
 use Rattle.definition.specs.Text.{Text, if_then_else_, smaller}
 use Rattle.definition.specs.Listing.{Entry, noEntry, directoryEntry, fileEntry, Row, entryAt, noDirectoryManifest, passes30, passes31, passes32}
-use Rattle.definition.specs.ListingSteps.{part, row, rowBy, rowsAt, Standing}
+use Rattle.definition.specs.ListingSteps.{part, row, rowBy, rowsAt}
 use Rattle.definition.specs.ListingOrder.{Rise, Going, inOrder, sized, shallow}
 use Rattle.listing.specs.declared.Found.{Found}
 use Rattle.listing.specs.declared.Found.the-variants.{Absent, Directory, File}
@@ -37,20 +37,12 @@ pub record Searched (l : List ℕ) (p : Text) (r : Found) : Type 0 where
 unfoldable pub verdict : List ℕ → Checked
 verdict l = if passes30 l then if passes31 l then if passes32 l then Accepted else Refused 32 else Refused 31 else Refused 30
 
--- the first of the entries from the i-th on, where its path begins at `at`, as far as the bytes go
-pub record Clamped (l : List ℕ) (i at : ℕ) (p : Place) : Type 0 where
+-- the first of the entries from the i-th on, where its path begins at `at`
+pub record Placed (l : List ℕ) (i at : ℕ) (p : Place) : Type 0 where
   pub starts : at ≤ p .end
   pub ends : p .end ≤ p .next
   pub inside : p .next ≤ length l
   pub rows : rowsAt l i at ≡ rowBy l at (p .end) (p .next) (p .directory) ∷ rowsAt l (i + 1) (p .next)
-
--- the same where the sizes fit
-pub record Placed (l : List ℕ) (n i at : ℕ) (p : Place) : Type 0 where
-  pub starts : at ≤ p .end
-  pub ends : p .end ≤ p .next
-  pub inside : p .next ≤ length l
-  pub rows : rowsAt l i at ≡ rowBy l at (p .end) (p .next) (p .directory) ∷ rowsAt l (i + 1) (p .next)
-  pub standing : Standing l n (i + 1) (p .next)
 
 -- the rules that each entry keeps by itself
 abbrev pub ruleOf : Rule → Row → Bool

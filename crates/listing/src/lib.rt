@@ -1,16 +1,15 @@
 // The lent listing: its search and its check. Every public function takes any bytes.
 ghost use mathlib.Core.Path.{_≡_};
 ghost use mathlib.Core.Bool.{Bool, true, _&&_};
-ghost use mathlib.Core.List.{List};
-ghost use Prim.Native.Nat.{ℕ, _+_, _-_, _*_, _≤_, _<_, min, max};
+ghost use Prim.Native.Nat.{_+_, _-_, _*_, _≤_, _<_, min, max};
 ghost use lib.ListN.{length, drop, getD};
 ghost use lib.Dec.{leb};
 ghost use Rattle.definition.specs.Text.{equal, all};
 ghost use Rattle.definition.specs.Listing.{number32, entryCount, contentsLength, rows, isDirectoryOf, sizesFit, isManifest, isComponent, firstIsRoot};
 ghost use Rattle.definition.specs.ListingSteps.{part, rowBy, Standing, lengthsAt};
-ghost use Rattle.definition.specs.ListingNames.{isName, Plain};
+ghost use Rattle.definition.specs.ListingNameLaws.{isName, Plain};
 ghost use Rattle.definition.specs.ListingOrder.{Shared, Remarked, markOf, inOrder, sized};
-ghost use Rattle.listing.specs.Meaning.{Searched, Clamped, Placed, Parts, Stepped, ruleOf, verdict};
+ghost use Rattle.listing.specs.Meaning.{Searched, Placed, Parts, Stepped, ruleOf, verdict};
 
 fn wide(x: u8) -> usize
     ensures { λ r. ⌜ (r ≡ x) × (r < 256) ⌝ }
@@ -80,7 +79,7 @@ pub enum Found {
 // The i-th of n entries, whose path begins at `at`, as far as the bytes go.
 fn clamped(l: &[u8], n: usize, i: usize, at: usize) -> Place
     requires { ⌜ (n ≡ entryCount (now l)) × (n < 4294967296) × (i < n) × (at ≤ length (now l)) ⌝ }
-    ensures { λ r. ⌜ Clamped (now (l .entry)) i at r ⌝ }
+    ensures { λ r. ⌜ Placed (now (l .entry)) i at r ⌝ }
 {
     let k = number(l, 8 + 4 * i);
     let c = number(l, 8 + 4 * n + 4 * i);
@@ -277,7 +276,7 @@ fn sizes(l: &[u8]) -> bool
 // The i-th of n entries of a listing whose sizes fit; its path begins at `at`.
 fn locate(l: &[u8], n: usize, i: usize, at: usize) -> Place
     requires { ⌜ Standing (now l) n i at × (i < n) ⌝ }
-    ensures { λ r. ⌜ Placed (now (l .entry)) n i at r ⌝ }
+    ensures { λ r. ⌜ Placed (now (l .entry)) i at r × Standing (now (l .entry)) n (i + 1) (r .next) ⌝ }
 {
     let c = number_at(l, 8 + 4 * n + 4 * i);
     let end = at + number_at(l, 8 + 4 * i);

@@ -1,3 +1,4 @@
+-- The rule over the entries from the i-th on is the rule over all.
 use borrow.Author.Needs.{needs}
 use mathlib.Core.Path.{_≡_, sym, _∙_, ap}
 use borrow.Author.Tests.{not-true, not-false}
@@ -31,11 +32,11 @@ every-spec =
     let s = standing-start (a .l .now) _ (c .before .before .pre) (c .number .ensures .0) in
     (s, sym (ap (all (ruleOf (a .rule))) (rows-stand s))))
     (λ c κs. (c .before .loop .inv .0, c .loop-test .taken))
-    (λ c κs. let p = c .locate .ensures in (p .starts, p .ends, p .inside))
-    (λ c. sym (all-next (ruleOf (c .before .before .before .before .before .before .before .args .rule)) (c .before .before .locate .ensures .rows) (sym (c .before .keeps .ensures) ∙ not-true _ (c .if1 .taken))) ∙ c .before .before .before .before .loop .inv .1)
+    (λ c κs. let p = c .locate .ensures .0 in (p .starts, p .ends, p .inside))
+    (λ c. sym (all-next (ruleOf (c .before .before .before .before .before .before .before .args .rule)) (c .before .before .locate .ensures .0 .rows) (sym (c .before .keeps .ensures) ∙ not-true _ (c .if1 .taken))) ∙ c .before .before .before .before .loop .inv .1)
     (λ c. search needs)
     (λ c. search needs)
     (λ c.
     let p = c .before .before .locate .ensures in
-    (p .standing, sym (all-next (ruleOf (c .before .before .before .before .before .before .before .args .rule)) (p .rows) (sym (c .before .keeps .ensures) ∙ not-false _ (c .if1 .left))) ∙ c .before .before .before .before .loop .inv .1))
+    (p .1, sym (all-next (ruleOf (c .before .before .before .before .before .before .before .args .rule)) (p .0 .rows) (sym (c .before .keeps .ensures) ∙ not-false _ (c .if1 .left))) ∙ c .before .before .before .before .loop .inv .1))
     (λ c. sym (all-end (ruleOf (c .before .before .before .before .args .rule)) (rows-end (c .before .before .before .before .args .l .now) (c .before .loop .i) (c .before .loop .at) (omega (arith, c .loop-test .left, c .before .loop .inv .0 .number)))) ∙ c .before .loop .inv .1))

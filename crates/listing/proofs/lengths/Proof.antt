@@ -1,3 +1,4 @@
+-- The sum so far and the sum of the rest are the whole sum.
 use borrow.Author.Needs.{needs}
 use mathlib.Core.Path.{_≡_, _∙_, ap}
 use Prim.Native.Nat.{ℕ, _+_, _-_, _*_, _≤_}

@@ -30,11 +30,12 @@ locate-spec =
     let l = a .l .now in
     let m : c .before .before .number-at .result ≡ contentsMarkAt l (a .i) = c .before .before .number-at .ensures .0 ∙ ap (λ (n : ℕ). number32 (drop (8 + 4 * n + 4 * a .i) l)) (s .pre .0 .number) in
     let k : a .at + c .before .number-at2 .result ≡ a .at + pathLengthAt l (a .i) = ap (λ (n : ℕ). a .at + n) (c .before .number-at2 .ensures .0) in
-    let x : a .at + c .before .number-at2 .result + c .contents-length .result ≡ a .at + c .before .number-at2 .result + contentsLength (contentsMarkAt l (a .i)) = ap (λ (n : ℕ). a .at + c .before .number-at2 .result + n) (c .contents-length .ensures .0 ∙ ap contentsLength m) in
-    record {
-      starts = omega arith;
-      ends = omega arith;
-      inside = standing-inside l (a .n) (a .i) (a .at) _ _ (s .pre .0) (s .pre .1) k x;
-      rows = rw m (standing-row l (a .n) (a .i) (a .at) _ _ (s .pre .0) (s .pre .1) k x);
-      standing = standing-next l (a .n) (a .i) (a .at) _ _ (s .pre .0) (s .pre .1) k x;
-    }))
+    let x : a .at + c .before .number-at2 .result + c .contents-length .result ≡ a .at + c .before .number-at2 .result + contentsLength (contentsMarkAt l (a .i)) = ap (λ (n : ℕ). a .at + c .before .number-at2 .result + n) (c .contents-length .ensures .0 ∙ ap contentsLength m) in (
+      record {
+        starts = omega arith;
+        ends = omega arith;
+        inside = standing-inside l (a .n) (a .i) (a .at) _ _ (s .pre .0) (s .pre .1) k x;
+        rows = rw m (standing-row l (a .n) (a .i) (a .at) _ _ (s .pre .0) (s .pre .1) k x);
+      },
+      standing-next l (a .n) (a .i) (a .at) _ _ (s .pre .0) (s .pre .1) k x,
+    )))

@@ -1,3 +1,4 @@
+-- The loop keeps `Going`: what was seen is in order, and the marks say which prefixes of the last path are directories.
 use borrow.Author.Needs.{needs}
 use mathlib.Core.Path.{_≡_, sym, _∙_}
 use mathlib.Core.Bool.{true, false}
@@ -49,18 +50,18 @@ ordered-spec =
     (λ c.
     let l = c .before .before .before .before .before .before .before .args .l .now in
     let s = standing-start l _ (c .before .before .before .before .before .before .before .pre .0) (c .before .before .before .before .before .number .ensures .0) in
-    let f : firstIsRoot (rows l) ≡ false = root-first (rows-stand s ∙ c .before .before .before .before .locate .ensures .rows) (sym (c .before .equal .ensures) ∙ not-true _ (c .if1 .taken)) in
+    let f : firstIsRoot (rows l) ≡ false = root-first (rows-stand s ∙ c .before .before .before .before .locate .ensures .0 .rows) (sym (c .before .equal .ensures) ∙ not-true _ (c .if1 .taken)) in
     rw f)
     (λ c.
     let l = c .before .before .before .before .before .before .before .before .before .args .l .now in
     let s = standing-start l _ (c .before .before .before .before .before .before .before .before .before .pre .0) (c .before .before .before .before .before .before .before .number .ensures .0) in
-    let f : firstIsRoot (rows l) ≡ c .before .before .before .before .before .before .locate .result .directory = root-first (rows-stand s ∙ c .before .before .before .before .before .before .locate .ensures .rows) (sym (c .before .before .before .equal .ensures) ∙ not-false _ (c .before .before .if1 .left)) in
+    let f : firstIsRoot (rows l) ≡ c .before .before .before .before .before .before .locate .result .directory = root-first (rows-stand s ∙ c .before .before .before .before .before .before .locate .ensures .0 .rows) (sym (c .before .before .before .equal .ensures) ∙ not-false _ (c .before .before .if1 .left)) in
     rw (f ∙ not-true _ (c .if2 .taken)))
     (λ c. search needs)
     (λ c.
     let l = c .before .before .before .before .before .before .before .before .before .args .l .now in
     let o = c .before .before .before .before .before .before .locate in
-    let p = o .ensures in
+    let p = o .ensures .0 in
     let a = 8 + 8 * c .before .before .before .before .before .before .before .number .result in
     let s = standing-start l _ (c .before .before .before .before .before .before .before .before .before .pre .0) (c .before .before .before .before .before .before .before .number .ensures .0) in
     let d : o .result .directory ≡ true = not-false _ (c .if2 .left) in
@@ -73,7 +74,7 @@ ordered-spec =
       short = omega (arith, root-length (part l a (o .result .end)) e);
       size = marks-size 1025 1;
       root = root-first r e ∙ d;
-      standing = p .standing;
+      standing = o .ensures .1;
       sizes = all-true sized r (c .before .before .before .before .before .before .before .before .before .pre .1) .1;
       going = going-start (rows l) (part l a (o .result .end)) (part l (o .result .end) (o .result .next)) (rowsAt l 1 (o .result .next)) _ g e (marks-one 1025 1 (search needs)) (λ i h. marks-more 1025 1 i h);
     })
@@ -86,16 +87,17 @@ ordered-spec =
     (λ c. search needs)
     (λ c κs.
     let v = c .before .before .before .before .before .loop .inv in
-    (v .short, sized-short _ _ _ (all-true sized (c .before .before .before .locate2 .ensures .rows) (v .sizes) .0), v .size))
+    (v .short, sized-short _ _ _ (all-true sized (c .before .before .before .locate2 .ensures .0 .rows) (v .sizes) .0), v .size))
     (λ c.
     let v = c .before .before .before .before .before .before .before .loop .inv in
     let h = rw (not-true (c .before .step .result) (c .if3 .taken)) at (c .before .step .ensures) in
-    rw (v .root, h _ _ _ _ (c .before .before .before .before .before .locate2 .ensures .rows) (v .going)))
+    rw (v .root, h _ _ _ _ (c .before .before .before .before .before .locate2 .ensures .0 .rows) (v .going)))
     (λ c. search needs)
     (λ c. search needs)
     (λ c.
     let v = c .before .before .before .before .before .before .before .loop .inv in
-    let p = c .before .before .before .before .before .locate2 .ensures in
+    let o = c .before .before .before .before .before .locate2 .ensures in
+    let p = o .0 in
     let h = rw (not-false (c .before .step .result) (c .if3 .left)) at (c .before .step .ensures) in
     let z = all-true sized (p .rows) (v .sizes) in
     record {
@@ -104,7 +106,7 @@ ordered-spec =
       short = sized-short _ _ _ (z .0);
       size = h .0 ∙ v .size;
       root = v .root;
-      standing = p .standing;
+      standing = o .1;
       sizes = z .1;
       going = h .1 _ _ _ _ (p .rows) (v .going);
     })

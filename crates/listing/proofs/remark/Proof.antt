@@ -1,3 +1,4 @@
+-- The marks behind j are cleared as far as i.
 use borrow.Author.Needs.{needs}
 use Prim.Native.Nat.{_+_, _-_, _≤_}
 use native.Mathlib.Omega.{arith}

@@ -1,3 +1,4 @@
+-- What is shared does not decide the order, so the loop may begin behind it.
 use borrow.Author.Needs.{needs}
 use mathlib.Core.Path.{_≡_, sym, _∙_}
 use Prim.Native.Nat.{_-_, _≤_}

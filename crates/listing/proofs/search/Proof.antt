@@ -1,3 +1,4 @@
+-- As long as the place lies within the bytes, the entries from it on decide (`Seeking`); a place past the end leaves it to the clamped search.
 use mathlib.Core.Path.{refl, _≡_, sym, _∙_, ap}
 use mathlib.Core.Bool.{true, false}
 use borrow.Author.Tests.{leb-true, eq-eqb, ne-eqb}

@@ -1,3 +1,4 @@
+-- The search among the entries from the i-th on is the search among all.
 use borrow.Author.Needs.{needs}
 use mathlib.Core.Path.{_≡_, sym, _∙_, ap}
 use Prim.Native.Nat.{_-_, _≤_}

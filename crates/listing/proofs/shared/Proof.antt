@@ -1,3 +1,4 @@
+-- Four bytes are equal where their numbers are.
 use borrow.Author.Needs.{needs}
 use Prim.Native.Nat.{_-_}
 use native.Mathlib.Omega.{arith}

@@ -1,3 +1,4 @@
+-- One step of the pass: each way out breaks a rule, whatever the entries are, and the way on keeps what the pass knows.
 use mathlib.Core.Path.{sym, _∙_}
 use Prim.Native.Nat.{_<_}
 use lib.ListN.{length}
@@ -5,7 +6,7 @@ use native.Mathlib.Omega.{arith}
 use borrow.Author.Tests.{not-true, not-false}
 use Rattle.definition.specs.Text.{slash}
 use Rattle.definition.specs.PathSteps.{last-inside, last-missing, last-found}
-use Rattle.definition.specs.ListingNames.{path-no-slash, path-two-slashes, cut-of}
+use Rattle.definition.specs.ListingNameLaws.{path-no-slash, path-two-slashes, cut-of}
 use Rattle.definition.specs.ListingOrder.{going-down, going-no-path, going-apart, going-unmarked, going-too-deep, name-is, going-next}
 use borrow.Author.Needs.{needs}
 use Rattle.listing.proofs.step.Statement.{statement}
