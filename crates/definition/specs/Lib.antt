@@ -66,7 +66,3 @@ pub mod CallEnds
 pub mod CallTwice
 pub mod WalkBounds
 pub mod DemandThree
--- Examples, by computation
-pub mod JsonExamples
-pub mod ReorderedExample
-pub mod DemandThreeExample
