@@ -374,15 +374,15 @@ relative-short (parentDir ∷ cs) p =
     let h : length q ≤ length p + 3 = if-short (length p + 3) (pops p) (parent p) (push p (text "..")) (omega (arith, parent-short (suc (length p)) p (omega arith) (omega arith))) (push-short p (text "..")) in
     omega (arith, relative-short cs q)
 
+pub normalized-short : (n : ℕ) (s : List ℕ) → length s ≤ n → length (normalizedSpecifier s) ≤ n + 3
+unfolding normalizedSpecifier normalizeRelative
+normalized-short n s h =
+    omega (arith, relative-short (components s) [], components-weight s, length-append (pushRelative (components s) []) (if endsWith (text "/") s then text "/" else []), if-short 1 (endsWith (text "/") s) (text "/") [] (omega arith) (omega arith))
+
 pub climbing-short : (n : ℕ) (s t : List ℕ) → length s ≤ n → climbing s ≡ some t → length t ≤ n + 3
 unfolding climbing
 climbing-short n s t h e = by ((containsText (text "/../..") s || containsText (text "../../") s) && equal (packageName (normalizedSpecifier s)) (text "..")) e
   where
-    whole : length (normalizedSpecifier s) ≤ n + 3
-    whole =
-        unfold normalizedSpecifier normalizeRelative in
-        (omega (arith, relative-short (components s) [], components-weight s, length-append (pushRelative (components s) []) (if endsWith (text "/") s then text "/" else []), if-short 1 (endsWith (text "/") s) (text "/") [] (omega arith) (omega arith)))
-
     by : (u : Bool) → (if u then some (normalizedSpecifier s) else none) ≡ some t → length t ≤ n + 3
-    by true e = let x : normalizedSpecifier s ≡ t = cc in rw (← x) whole
+    by true e = let x : normalizedSpecifier s ≡ t = cc in rw (← x) (normalized-short n s h)
     by false e = absurd (let z : _≡_ {A = ℕ} 0 1 = cc in omega arith)
