@@ -15,6 +15,6 @@ parse-spec =
     (λ c κs. search needs)
     (λ c. sym (length-take-le _ _ (omega (arith, c .before .scan .ensures .place, body-inside (c .before .before .before .args .s .now)))))
     (λ c κs. search needs)
-    (λ c. sym (length-take-le _ _ (first-of-part _ _ _ (c .before .find .ensures))))
+    (λ c. sym (length-take-le _ _ (first-of-part (c .before .before .before .before .before .args .s .now) (c .before .before .before .scan .result .fragment) _ (c .before .find .ensures))))
     (λ c κs. search needs)
     (λ c. parse-is _ _ _ _ (c .before .before .before .before .scan .ensures) (c .before .before .find .ensures) _ (c .path-of .ensures)))
