@@ -6,3 +6,4 @@ pub mod Strings
 pub mod Names
 pub mod Values
 pub mod Whole
+pub mod Walks

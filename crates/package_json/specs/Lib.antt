@@ -2,4 +2,4 @@ pub mod Scanned
 pub mod Automaton
 pub mod Decoded
 pub mod Names
-pub mod Stands
+pub mod Cursors

@@ -230,26 +230,6 @@ fn root(p: &[u8]) -> &[u8]
     if p[0] == b'/' { &p[0..1] } else { &p[0..0] }
 }
 
-// As `push_part`, but ".." stays where nothing is left to pop.
-fn push_relative_part(b: &mut [u8; 2048], n: usize, part: &[u8]) -> usize
-    requires { ⌜ length (now b) ≡ 2048 ⌝ }
-    ensures { λ r. ⌜ length (now (b .exit)) ≡ 2048 ⌝ }
-    ensures { λ r. ⌜ pathAt (now (b .exit)) r ≡ andPath (pathAt (now (b .entry)) n) (λ p. limited (pushRelative (component (now (part .entry))) p)) ⌝ }
-{
-    if part.len() == 0 {
-        return n;
-    }
-    if text::equal(part, b".") {
-        return n;
-    }
-    if text::equal(part, b"..") {
-        if pops(first(b, n)) {
-            return up(b, n);
-        }
-    }
-    join(b, n, part)
-}
-
 // Whether a path has a component to pop.
 fn pops(p: &[u8]) -> bool
     ensures { λ r. ⌜ r ≡ pops (now (p .entry)) ⌝ }
@@ -258,6 +238,20 @@ fn pops(p: &[u8]) -> bool
         return false;
     }
     !text::equal(p, b"/")
+}
+
+// As `push_part`, but ".." stays where nothing is left to pop.
+fn push_relative_part(b: &mut [u8; 2048], n: usize, part: &[u8]) -> usize
+    requires { ⌜ length (now b) ≡ 2048 ⌝ }
+    ensures { λ r. ⌜ length (now (b .exit)) ≡ 2048 ⌝ }
+    ensures { λ r. ⌜ pathAt (now (b .exit)) r ≡ andPath (pathAt (now (b .entry)) n) (λ p. limited (pushRelative (component (now (part .entry))) p)) ⌝ }
+{
+    if text::equal(part, b"..") {
+        if !pops(first(b, n)) {
+            return join(b, n, part);
+        }
+    }
+    push_part(b, n, part)
 }
 
 // A path without ".", and without ".." behind a component.

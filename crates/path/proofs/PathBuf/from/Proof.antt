@@ -1,5 +1,4 @@
 use borrow.Author.Needs.{needs}
-use mathlib.Core.Path.{_≡_, sym, _∙_, ap}
 use Rattle.definition.specs.Path.{addExtension}
 use Rattle.path.specs.Meaning.{pathAt}
 use Rattle.path.proofs.PathBuf.from.Statement.{statement}

@@ -29,9 +29,9 @@ use Rattle.definition.specs.Json.{
   json-computes,
 }
 
-record Row : Type 0 where
-  bytes : Text
-  says : Read Json
+pub record Row : Type 0 where
+  pub bytes : Text
+  pub says : Read Json
 
 -- a text and its value, or its fault; the same in quotes
 gives : Text → Json → Row
@@ -222,9 +222,9 @@ limits =
     ∷ refused (replicate 16384 32 ++ text "0") beyond
     ∷ []
 
-rows : List Row
+pub rows : List Row
 rows = published ++ numbers ++ strings ++ containers ++ limits
 
-all-say : map (λ r. parse (r .bytes)) rows ≡ map (λ r. r .says) rows
+pub all-say : map (λ r. parse (r .bytes)) rows ≡ map (λ r. r .says) rows
 unfolding text-computes json-computes gives refused quoted word list object image imageValue zips zip published numbers strings containers times nested distinct distinctMembers limits rows
 all-say = refl
