@@ -321,6 +321,38 @@ fn long_paths() -> bool {
     wider.path.len > 2048
 }
 
+// The normalised specifier, and whether it leaves the directory of the first walk.
+fn climb(s: &[u8], wanted: &[u8], up: bool) -> bool {
+    let p = specifier::normalized(s);
+    let n = p.len;
+    let to = path::first(&p.bytes, n);
+    let same = text::equal(to, wanted);
+    let above = specifier::may_climb(s) && specifier::climbs(to);
+    case(same && above == up, s)
+}
+
+fn climbing() -> bool {
+    if !climb(b"a/../../b", b"../b", true) {
+        return false;
+    }
+    if !climb(b"a/../../../b", b"b", false) {
+        return false;
+    }
+    if !climb(b"a/../../b/", b"../b/", true) {
+        return false;
+    }
+    if !climb(b"a/../..", b"..", true) {
+        return false;
+    }
+    if !climb(b"a/../b", b"b", false) {
+        return false;
+    }
+    if !climb(b"a/b/../../c", b"c", false) {
+        return false;
+    }
+    climb(b"@a/b/../../../c", b"../c", true)
+}
+
 fn main() {
     report(splits(), b"name and subpath: 12");
     report(dots(), b"dotted subpath: 6");
@@ -332,4 +364,5 @@ fn main() {
     report(escaped(), b"escaped: 8");
     report(empties(), b"empty: 3");
     report(long_paths(), b"long paths: 4");
+    report(climbing(), b"second walk: 7");
 }
