@@ -64,6 +64,11 @@ starts-with c (b ∷ p) h = go (eqb c b)
     go true = refl
     go false = refl
 
+pub starts-empty : (c : ℕ) (p : List ℕ) → length p ≡ 0 → startsWith (c ∷ []) p ≡ false
+unfolding startsWith
+starts-empty c [] h = refl
+starts-empty c (b ∷ p) h = let z : ⊥ = omega arith in absurd z
+
 -- the parent, by the place k of the last slash
 module _ (p : List ℕ) where
   pub parent-none : contains slash p ≡ false → parent p ≡ []
