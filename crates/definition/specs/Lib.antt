@@ -14,6 +14,9 @@ pub mod Reordered
 -- Laws
 pub mod TextLaws
 pub mod TextSteps
+pub mod PathSteps
+pub mod ListingSteps
+pub mod ListingOrder
 pub mod WalkPathLaws
 pub mod KeyOrderLaws
 pub mod FoldLaws

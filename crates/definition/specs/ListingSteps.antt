@@ -1,0 +1,245 @@
+-- The listing at a place: what a loop over its bytes uses, with the entry's index i and the offset of its path. Assumes nothing.
+use mathlib.Core.Path.{_≡_, refl, sym, _∙_, ap}
+use mathlib.Core.Bool.{Bool, true, false, not, _&&_, _||_}
+use mathlib.Core.List.{List, [], _∷_}
+use Prim.Native.Nat.{ℕ, zero, suc, _+_, _-_, _*_, _≤_, _<_, min}
+use native.Mathlib.Omega.{arith}
+use lib.ListN.{length, drop, take, getD, length-drop, length-take, drop-of-length-le}
+use Rattle.definition.specs.TextLaws.{equal-true}
+use lib.Seq.{drop-drop, getD-drop, take-all}
+use lib.Dec.{eqb, leb}
+use Rattle.definition.specs.Listing.{Entry, noEntry}
+use Rattle.definition.specs.Text.{Text, text, equal, if_then_else_, smaller, startsWith, contains, split, slash, all, isUtf8, count}
+use borrow.Author.Tests.{leb-true, leb-false}
+use mathlib.Core.Logic.{_⊎_, inl, inr}
+use Rattle.definition.specs.Path.{parent}
+use Rattle.definition.specs.Listing.{number32, entryCount, directoryMark, contentsLength, lengthsFrom, Row, rowsFrom, rows, entryOf, entryIn, entryAt, rising, isComponent, isPath, isManifest, rowFits, parentIsDirectory, noDirectoryManifest, isDirectoryEntry, firstIsRoot, sizesFit, textLength, passes30, passes31, passes32}
+
+-- the two lengths of the i-th entry, and the entry whose path begins at the offset
+unfoldable pub pathLengthAt : List ℕ → ℕ → ℕ
+pathLengthAt l i = number32 (drop (8 + 4 * i) l)
+
+unfoldable pub contentsMarkAt : List ℕ → ℕ → ℕ
+contentsMarkAt l i = number32 (drop (8 + 4 * entryCount l + 4 * i) l)
+
+unfoldable pub rowAt : List ℕ → ℕ → ℕ → Row
+rowAt l i at = record {
+  path = take (pathLengthAt l i) (drop at l);
+  isDirectory = eqb (contentsMarkAt l i) directoryMark;
+  contents = take (contentsLength (contentsMarkAt l i)) (drop (pathLengthAt l i) (drop at l));
+}
+
+unfoldable pub nextAt : List ℕ → ℕ → ℕ → ℕ
+nextAt l i at = at + (pathLengthAt l i + contentsLength (contentsMarkAt l i))
+
+-- the entries from the i-th on
+unfoldable pub rowsAt : List ℕ → ℕ → ℕ → List Row
+rowsAt l i at = rowsFrom (entryCount l - i) (drop (8 + 4 * i) l) (drop (8 + 4 * entryCount l + 4 * i) l) (drop at l)
+
+pub rows-start : (l : List ℕ) → rows l ≡ rowsAt l 0 (8 + 8 * entryCount l)
+unfolding rows rowsAt
+rows-start l =
+    let n = entryCount l in
+    let a : n ≡ n - 0 = omega arith in
+    let b : 8 + 4 * n ≡ 8 + 4 * n + 4 * 0 = omega arith in
+    ap (λ (k : ℕ). rowsFrom k (drop 8 l) (drop (8 + 4 * n) l) (drop (8 + 8 * n) l)) a ∙ ap (λ (k : ℕ). rowsFrom (n - 0) (drop 8 l) (drop k l) (drop (8 + 8 * n) l)) b
+
+pub rows-end : (l : List ℕ) (i at : ℕ) → entryCount l ≤ i → rowsAt l i at ≡ []
+unfolding rowsAt rowsFrom
+rows-end l i at h = let z : entryCount l - i ≡ 0 = omega arith in rw z
+
+pub rows-next : (l : List ℕ) (i at : ℕ) → i < entryCount l → rowsAt l i at ≡ rowAt l i at ∷ rowsAt l (i + 1) (nextAt l i at)
+unfolding rowsAt rowAt nextAt pathLengthAt contentsMarkAt
+rows-next l i at h =
+    let n = entryCount l in
+    let z : n - i ≡ suc (n - (i + 1)) = omega arith in
+    let a : 8 + 4 * i + 4 ≡ 8 + 4 * (i + 1) = omega arith in
+    let b : 8 + 4 * n + 4 * i + 4 ≡ 8 + 4 * n + 4 * (i + 1) = omega arith in
+    let p : drop 4 (drop (8 + 4 * i) l) ≡ drop (8 + 4 * (i + 1)) l = drop-drop 4 (8 + 4 * i) l ∙ ap (λ (k : ℕ). drop k l) a in
+    let c : drop 4 (drop (8 + 4 * n + 4 * i) l) ≡ drop (8 + 4 * n + 4 * (i + 1)) l = drop-drop 4 (8 + 4 * n + 4 * i) l ∙ ap (λ (k : ℕ). drop k l) b in
+    ap (λ (k : ℕ). rowsFrom k (drop (8 + 4 * i) l) (drop (8 + 4 * n + 4 * i) l) (drop at l)) z ∙ one (n - (i + 1)) (drop (8 + 4 * i) l) (drop (8 + 4 * n + 4 * i) l) (drop at l)
+    ∙ rw (p, c, drop-drop (number32 (drop (8 + 4 * i) l) + contentsLength (number32 (drop (8 + 4 * n + 4 * i) l))) at l)
+  where
+    one : (k : ℕ) (ps cs t : List ℕ) → rowsFrom (suc k) ps cs t ≡ record { path = take (number32 ps) t; isDirectory = eqb (number32 cs) directoryMark; contents = take (contentsLength (number32 cs)) (drop (number32 ps) t) } ∷ rowsFrom k (drop 4 ps) (drop 4 cs) (drop (number32 ps + contentsLength (number32 cs)) t)
+    one k ps cs t = unfold rowsFrom in refl
+
+-- one step of a search
+pub search-next : (l : List ℕ) (i at : ℕ) (p : Text) → i < entryCount l
+    → entryIn (rowsAt l i at) p ≡ (if equal (rowAt l i at .path) p then entryOf (rowAt l i at) else entryIn (rowsAt l (i + 1) (nextAt l i at)) p)
+unfolding entryIn
+search-next l i at p h = ap (λ rs. entryIn rs p) (rows-next l i at h)
+
+-- a number of 32 bits by its bytes
+pub number-at : (l : List ℕ) (k : ℕ) → number32 (drop k l) ≡ getD l k 0 + 256 * (getD l (k + 1) 0 + 256 * (getD l (k + 2) 0 + 256 * getD l (k + 3) 0))
+unfolding number32
+number-at l k = let z : k + 0 ≡ k = omega arith in rw (getD-drop k l 0 0, getD-drop k l 1 0, getD-drop k l 2 0, getD-drop k l 3 0, z)
+
+-- a part of a list may be asked for past its end
+pub at-or-under : (m n : ℕ) → (m ≤ n) ⊎ (n < m)
+at-or-under m n = go (leb m n) refl
+  where
+    go : (b : Bool) → leb m n ≡ b → (m ≤ n) ⊎ (n < m)
+    go true e = inl (leb-true m n e)
+    go false e = inr (leb-false m n e)
+
+module _ (l : List ℕ) where
+  drop-min : (a : ℕ) → drop a l ≡ drop (min a (length l)) l
+  drop-min a = go (at-or-under (length l) a)
+    where
+      go : (length l ≤ a) ⊎ (a < length l) → drop a l ≡ drop (min a (length l)) l
+      go (inl h) = let k : length l ≤ min a (length l) = omega arith in drop-of-length-le l h ∙ sym (drop-of-length-le l k)
+      go (inr h) = let k : a ≡ min a (length l) = omega arith in ap (λ (n : ℕ). drop n l) k
+
+  take-min : (a : ℕ) → take a l ≡ take (min a (length l)) l
+  take-min a = go (at-or-under (length l) a)
+    where
+      go : (length l ≤ a) ⊎ (a < length l) → take a l ≡ take (min a (length l)) l
+      go (inl h) = let k : length l ≤ min a (length l) = omega arith in take-all _ l h ∙ sym (take-all _ l k)
+      go (inr h) = let k : a ≡ min a (length l) = omega arith in ap (λ (n : ℕ). take n l) k
+
+  pub drop-clamped : (a b : ℕ) → min a (length l) ≡ min b (length l) → drop a l ≡ drop b l
+  drop-clamped a b e = drop-min a ∙ ap (λ (n : ℕ). drop n l) e ∙ sym (drop-min b)
+
+  pub take-clamped : (a b : ℕ) → min a (length l) ≡ min b (length l) → take a l ≡ take b l
+  take-clamped a b e = take-min a ∙ ap (λ (n : ℕ). take n l) e ∙ sym (take-min b)
+
+pub rows-clamped : (l : List ℕ) (i a b : ℕ) → min a (length l) ≡ min b (length l) → rowsAt l i a ≡ rowsAt l i b
+unfolding rowsAt
+rows-clamped l i a b e = ap (λ t. rowsFrom (entryCount l - i) (drop (8 + 4 * i) l) (drop (8 + 4 * entryCount l + 4 * i) l) t) (drop-clamped l a b e)
+
+pub rows-begin : (l : List ℕ) (n at : ℕ) → n ≡ entryCount l → at ≡ min (0 + (8 + 8 * n)) (length l) → rows l ≡ rowsAt l 0 at
+rows-begin l n at e h = rows-start l ∙ rows-clamped l 0 (8 + 8 * entryCount l) at (omega arith)
+
+-- the bytes from a to e
+abbrev pub part : List ℕ → ℕ → ℕ → List ℕ
+part l a e = take (e - a) (drop a l)
+
+-- an entry by its ends: the path from at to e, the contents from e to x
+abbrev pub rowBy : List ℕ → ℕ → ℕ → ℕ → Bool → Row
+rowBy l at e x d = record { path = part l at e; isDirectory = d; contents = part l e x }
+
+-- the first entry of those from the i-th on, its ends clamped to the end of the bytes
+pub rows-place : (l : List ℕ) (i at e x : ℕ) → i < entryCount l → at ≤ length l
+    → e ≡ min (at + pathLengthAt l i) (length l) → x ≡ min (e + contentsLength (contentsMarkAt l i)) (length l)
+    → rowsAt l i at ≡ rowBy l at e x (eqb (contentsMarkAt l i) directoryMark) ∷ rowsAt l (i + 1) x
+unfolding rowAt nextAt
+rows-place l i at e x h k p q =
+    let m = pathLengthAt l i in
+    let c = contentsLength (contentsMarkAt l i) in
+    let a : take m (drop at l) ≡ take (e - at) (drop at l) = take-clamped (drop at l) m (e - at) (omega (arith, length-drop at l)) in
+    let b : drop (at + m) l ≡ drop e l = drop-clamped l (at + m) e (omega arith) in
+    let d : take c (drop e l) ≡ take (x - e) (drop e l) = take-clamped (drop e l) c (x - e) (omega (arith, length-drop e l)) in
+    let f : drop m (drop at l) ≡ drop e l = drop-drop m at l ∙ b in
+    let g : take c (drop m (drop at l)) ≡ take (x - e) (drop e l) = ap (take c) f ∙ d in
+    let j : rowsAt l (i + 1) (at + (m + c)) ≡ rowsAt l (i + 1) x = rows-clamped l (i + 1) (at + (m + c)) x (omega arith) in
+    rows-next l i at h ∙ cc
+
+-- the sum of the lengths from the i-th entry on
+unfoldable pub lengthsAt : List ℕ → ℕ → ℕ
+lengthsAt l i = lengthsFrom (entryCount l - i) (drop (8 + 4 * i) l) (drop (8 + 4 * entryCount l + 4 * i) l)
+
+pub lengths-end : (l : List ℕ) (i : ℕ) → entryCount l ≤ i → lengthsAt l i ≡ 0
+unfolding lengthsAt lengthsFrom
+lengths-end l i h = let z : entryCount l - i ≡ 0 = omega arith in rw z
+
+pub lengths-next : (l : List ℕ) (i : ℕ) → i < entryCount l → lengthsAt l i ≡ pathLengthAt l i + contentsLength (contentsMarkAt l i) + lengthsAt l (i + 1)
+unfolding lengthsAt pathLengthAt contentsMarkAt
+lengths-next l i h =
+    let n = entryCount l in
+    let z : n - i ≡ suc (n - (i + 1)) = omega arith in
+    let a : 8 + 4 * i + 4 ≡ 8 + 4 * (i + 1) = omega arith in
+    let b : 8 + 4 * n + 4 * i + 4 ≡ 8 + 4 * n + 4 * (i + 1) = omega arith in
+    let p : drop 4 (drop (8 + 4 * i) l) ≡ drop (8 + 4 * (i + 1)) l = drop-drop 4 (8 + 4 * i) l ∙ ap (λ (k : ℕ). drop k l) a in
+    let c : drop 4 (drop (8 + 4 * n + 4 * i) l) ≡ drop (8 + 4 * n + 4 * (i + 1)) l = drop-drop 4 (8 + 4 * n + 4 * i) l ∙ ap (λ (k : ℕ). drop k l) b in
+    ap (λ (k : ℕ). lengthsFrom k (drop (8 + 4 * i) l) (drop (8 + 4 * n + 4 * i) l)) z ∙ one (n - (i + 1)) (drop (8 + 4 * i) l) (drop (8 + 4 * n + 4 * i) l) ∙ rw (p, c)
+  where
+    one : (k : ℕ) (ps cs : List ℕ) → lengthsFrom (suc k) ps cs ≡ number32 ps + contentsLength (number32 cs) + lengthsFrom k (drop 4 ps) (drop 4 cs)
+    one k ps cs = unfold lengthsFrom in refl
+
+-- the order, with the path before
+unfoldable pub risingAfter : Text → List Row → Bool
+risingAfter p [] = true
+risingAfter p (r ∷ rs) = smaller p (r .path) && risingAfter (r .path) rs
+
+pub rising-after : (r : Row) (rs : List Row) → rising (r ∷ rs) ≡ risingAfter (r .path) rs
+unfolding rising risingAfter
+rising-after r [] = refl
+rising-after r (q ∷ rs) = ap (λ b. smaller (r .path) (q .path) && b) (rising-after q rs)
+
+-- a search, entry by entry
+module _ {rs : List Row} {r : Row} {q : List Row} (p : Text) (e : rs ≡ r ∷ q) where
+  pub entry-hit : equal (r .path) p ≡ true → entryIn rs p ≡ entryOf r
+  unfolding entryIn
+  entry-hit h = rw (e, h)
+
+  pub entry-miss : equal (r .path) p ≡ false → entryIn rs p ≡ entryIn q p
+  unfolding entryIn
+  entry-miss h = rw (e, h)
+
+pub entry-end : {rs : List Row} (p : Text) → rs ≡ [] → entryIn rs p ≡ noEntry
+unfolding entryIn
+entry-end p e = rw e
+
+-- the rules, by their parts
+pub path-is : (p : Text) {a b c d : Bool} → startsWith (text "/") p ≡ a → (equal p (text "/") || all isComponent (split slash (drop 1 p))) ≡ b → isUtf8 p ≡ c → not (contains 0 p) ≡ d
+    → isPath p ≡ (a && b && c && d)
+unfolding isPath
+path-is p h i j k = cc
+
+abbrev pub row : Text → Bool → List ℕ → Row
+row p d c = record { path = p; isDirectory = d; contents = c }
+
+pub fits-is : (p : Text) (f : Bool) (s : List ℕ) {a b c d : Bool} → leb (length p) 1024 ≡ a → leb (count slash p) 32 ≡ b → isManifest p ≡ c → equal s [] ≡ d → rowFits (row p f s) ≡ (a && b && (c || d))
+unfolding rowFits
+fits-is p f s h i j k = cc
+
+pub all-next : {A : Type 0} (f : A → Bool) {rs : List A} {r : A} {q : List A} → rs ≡ r ∷ q → {b : Bool} → f r ≡ b → all f rs ≡ (b && all f q)
+unfolding all
+all-next f e h = rw (e, h)
+
+pub all-end : {A : Type 0} (f : A → Bool) {rs : List A} → rs ≡ [] → all f rs ≡ true
+unfolding all
+all-end f e = rw e
+
+pub sizes-is : (l : List ℕ) {a b c d e : Bool} → leb (length l) 65536 ≡ a → leb 1 (entryCount l) ≡ b → leb (entryCount l) 1024 ≡ c → eqb (length l) (8 + 8 * entryCount l + textLength l) ≡ d → eqb (lengthsAt l 0) (textLength l) ≡ e
+    → sizesFit l ≡ (a && b && c && d && e)
+unfolding sizesFit lengthsAt
+sizes-is l h i j k m =
+    let n = entryCount l in
+    let x : n - 0 ≡ n = omega arith in
+    let y : 8 + 4 * n + 4 * 0 ≡ 8 + 4 * n = omega arith in
+    rw (h, i, j, k, ← m, x, y)
+
+pub after-next : (p : Text) {rs : List Row} {r : Row} {q : List Row} → rs ≡ r ∷ q → {b : Bool} → smaller p (r .path) ≡ b → risingAfter p rs ≡ (b && risingAfter (r .path) q)
+unfolding risingAfter
+after-next p e h = rw (e, h)
+
+pub after-end : (p : Text) {rs : List Row} → rs ≡ [] → risingAfter p rs ≡ true
+unfolding risingAfter
+after-end p e = rw e
+
+pub rising-end : {rs : List Row} → rs ≡ [] → rising rs ≡ true
+unfolding rising
+rising-end e = rw e
+
+pub root-end : {rs : List Row} → rs ≡ [] → firstIsRoot rs ≡ false
+unfolding firstIsRoot
+root-end e = rw e
+
+pub root-first : {rs : List Row} {r : Row} {q : List Row} → rs ≡ r ∷ q → {b : Bool} → equal (r .path) (text "/") ≡ b → firstIsRoot rs ≡ (b && r .isDirectory)
+unfolding firstIsRoot
+root-first e h = rw (e, h)
+
+pub passes-30 : (l : List ℕ) {a b : Bool} → sizesFit l ≡ a → all rowFits (rows l) ≡ b → passes30 l ≡ (a && b)
+unfolding passes30
+passes-30 l h i = cc
+
+pub passes-31 : (l : List ℕ) {a b c d : Bool} → firstIsRoot (rows l) ≡ a → all (λ r. isPath (r .path)) (rows l) ≡ b → rising (rows l) ≡ c → all (parentIsDirectory (rows l)) (rows l) ≡ d → passes31 l ≡ (a && b && c && d)
+unfolding passes31
+passes-31 l h i j k = rw (h, i, j, k)
+
+pub part-length : (l : List ℕ) (a e : ℕ) → a ≤ e → e ≤ length l → length (part l a e) ≡ e - a
+part-length l a e h k = length-take (e - a) (drop a l) ∙ omega (arith, length-drop a l)
+
+pub root-length : (p : Text) → equal p (text "/") ≡ true → length p ≡ 1
+root-length p e = ap length (equal-true p (text "/") e)

@@ -1,0 +1,61 @@
+use mathlib.Core.Path.{sym, _∙_}
+use Rattle.definition.specs.ListingSteps.{number-at}
+use borrow.Author.Needs.{needs}
+use Rattle.listing.proofs.number_past.Statement.{statement}
+use Rattle.listing.proofs.number_past.Tie as tie
+use Rattle.listing.proofs.number_past.Reads as reads
+use Rattle.listing.proofs.number_past.Lts as lts
+use Rattle.listing.proofs.byte.Reads as byte-reads
+use Rattle.listing.proofs.word.Reads as word-reads
+
+-- src/lib.rt:35:10
+byte-requires : tie.Need-byte-requires
+byte-requires c κs = search needs
+
+-- src/lib.rt:35:30
+add-byte : tie.Need-add-byte
+add-byte c = search needs
+
+-- src/lib.rt:35:22
+byte-requires-2 : tie.Need-byte-requires-2
+byte-requires-2 c κs = search needs
+
+-- src/lib.rt:35:46
+add-byte-2 : tie.Need-add-byte-2
+add-byte-2 c = search needs
+
+-- src/lib.rt:35:38
+byte-requires-3 : tie.Need-byte-requires-3
+byte-requires-3 c κs = search needs
+
+-- src/lib.rt:35:62
+add-byte-3 : tie.Need-add-byte-3
+add-byte-3 c = search needs
+
+-- src/lib.rt:35:54
+byte-requires-4 : tie.Need-byte-requires-4
+byte-requires-4 c κs = search needs
+
+-- src/lib.rt:35:5
+word-requires : tie.Need-word-requires
+word-requires c κs = search needs
+
+-- src/lib.rt:31:1
+returns : tie.Need-returns
+returns c =
+    let a = c .before .before .before .before .before .before .args in
+    (c .word .ensures .0 ∙ rw (number-at (a .l .now) (a .k), c .before .before .before .before .byte .ensures, c .before .before .before .byte2 .ensures, c .before .before .byte3 .ensures, c .before .byte4 .ensures), c .word .ensures .1)
+
+pub number-past-spec : {M : Type 1} → statement M
+number-past-spec =
+    tie.close
+    (tie.spec
+    byte-requires
+    add-byte
+    byte-requires-2
+    add-byte-2
+    byte-requires-3
+    add-byte-3
+    byte-requires-4
+    word-requires
+    returns)
