@@ -1,1 +1,25 @@
 -- What the types of `resolver` mean.
+use mathlib.Core.List.{List, [], _∷_}
+use Prim.Native.Nat.{ℕ}
+use Rattle.definition.specs.Text.{Text}
+use Rattle.definition.specs.Ask.{Consult, Step, go, stop}
+use Rattle.definition.specs.Manifest.{Place}
+use Rattle.resolver.specs.Tape.{Tape}
+use Rattle.resolver.specs.declared.Ending.{Ending}
+use Rattle.resolver.specs.declared.Mark.{Mark}
+use Rattle.resolver.specs.declared.Way.{Way}
+use Rattle.resolver.specs.declared.Way.the-variants.{Next, Stopped}
+
+-- the lent buffers with the counts
+abbrev pub tapeOf : List ℕ → List ℕ → List ℕ → Mark → Tape
+tapeOf result numbers text m = record { result = result; numbers = numbers; text = text; count = m .count; size = m .size }
+
+abbrev pub consult : Text → ℕ → Consult
+consult p s = record { path = p; state = s }
+
+abbrev pub place : Text → Text → Text → Place
+place p q f = record { path = p; query = q; fragment = f }
+
+abbrev pub stepOf : Way → Step Ending (Unit {0})
+stepOf Next = go tt
+stepOf (Stopped n) = stop n
