@@ -8,10 +8,11 @@ use native.Mathlib.Omega.{arith}
 use native.Mathlib.Nat.{suc-mul}
 use lib.ListN.{length, length-append}
 use Rattle.definition.specs.Text.{Text}
-use Rattle.definition.specs.Ask.{State, absent, directory, file, Listing, Consult, Step, go, stop, Ask, ret, end, ask, read, stateOf, contentsOf, answer, log, then-answer, then-log, answer-bind, log-bind, _>>=_, _>>_}
+use Rattle.definition.specs.Ask.{State, absent, directory, file, Listing, Consult, Step, go, stop, Ask, ret, end, ask, read, stateOf, contentsOf, answer, log, _>>=_, _>>_}
 use Rattle.definition.specs.Manifest.{End, Stop, Manifest}
 use Rattle.definition.specs.Json.{Fault}
 use Rattle.definition.specs.Walk.{Look, never, when, unless, perhaps, forEach, given, isDir, isDirState, isFile}
+use Rattle.definition.specs.AskLaws.{then-answer, then-log, answer-bind, log-bind}
 
 -- over this listing the list has at most n consults
 pub record AtMost {E M A : Type 0} (L : Listing M) (n : ℕ) (t : Ask E M A) : Type 0 where

@@ -9,11 +9,11 @@ use lib.ListN.{length}
 use Rattle.definition.specs.TextLaws.{and-true}
 use Rattle.definition.specs.Path.{dirs}
 use Rattle.definition.specs.WalkPathLaws.{length-dirs}
-use Rattle.definition.specs.Reordered.{SameManifest}
+use Rattle.definition.specs.Reordered.{SameManifest, Agrees}
 use Rattle.definition.specs.Text.{Text}
 use Rattle.definition.specs.Listing.{Entry, directoryEntry, entryAt, isDirectoryOf, rows, height, passes30, passes31, passes32, accepted}
-use Rattle.definition.specs.Ask.{State, directory, Listing, Consult, stateOf}
-use Rattle.definition.specs.ViewLaws.{Alike, seen, state-viewed, same-answer, same-log}
+use Rattle.definition.specs.Ask.{State, directory, Listing, Consult, stateOf, seen}
+use Rattle.definition.specs.ViewLaws.{same-answer, same-log}
 use Rattle.definition.specs.Settings.{Settings, settingsOf, textsOf, passes24}
 use Rattle.definition.specs.Manifest.{End, isAnswer, view}
 use Rattle.definition.specs.Walk.{lookup, ending}
@@ -21,14 +21,11 @@ use Rattle.definition.specs.LengthBound.{W, most-lookup, limits}
 use Rattle.definition.specs.ManifestViewLaws.{kept}
 use Rattle.definition.specs.DepthLaws.{tall, folder-of, folder-at, height-low, Few, few}
 use Rattle.definition.specs.Called.{Question, Defined, definition, seenBy, endOf, listOf, Rooms, Left, check, refusalOf, delivered, unlessRefused, called}
+use Rattle.definition.specs.AskLaws.{state-viewed}
 
 -- one question asked of a listing
 abbrev pub questionOf : List ℕ → List ℕ → List ℕ → List ℕ → Question
 questionOf l settings start specifier = record { listing = l; settings = settings; start = start; specifier = specifier }
-
--- B agrees with A at the consulted path: the same state, and at state 3 the same bytes, reordering of exports maps apart
-abbrev pub Agrees : List ℕ → List ℕ → List ℕ → Consult → Type 0
-Agrees settings A B c = Alike (SameManifest (settingsOf settings .exportsFields)) (entryAt A) (entryAt B) c
 
 parts : (l : List ℕ) → accepted l ≡ true → ((passes30 l ≡ true) × (passes31 l ≡ true)) × (passes32 l ≡ true)
 unfolding accepted

@@ -10,17 +10,13 @@ use lib.ListN.{length}
 use Rattle.definition.specs.Text.{text, text-computes, Text}
 use Rattle.definition.specs.Json.{Json, str, parse, json-computes}
 use Rattle.definition.specs.Exports.{isSubpathKey}
-use Rattle.definition.specs.ExportsOrderLaws.{SubpathMap}
-use Rattle.definition.specs.Layout
-use Rattle.definition.specs.Layout.{Piece, Layout, entryAt as entryRead, allSpace, entriesOf}
-use Rattle.definition.specs.Reordered.{ObjectText, filled, MapReordered, MemberReordered, unchanged, ownMap, RootReordered, Reordered, SameManifest}
+use Rattle.definition.specs.Reordered.{ObjectText, filled, MapReordered, MemberReordered, unchanged, ownMap, RootReordered, Reordered, SameManifest, SubpathMap, Piece, Layout, memberAt, allSpace, entriesOf, Alike, Agrees, lastPiece, nextPiece}
 use Rattle.definition.specs.Listing.{Entry, noEntry, directoryEntry, fileEntry, accepted, entryAt, isDirectoryOf, listing-computes}
 use Rattle.definition.specs.Ask.{Consult}
-use Rattle.definition.specs.ViewLaws.{Alike}
 use Rattle.definition.specs.Settings.{settingsOf, settings-computes}
 use Rattle.definition.specs.Manifest.{isAnswer}
 use Rattle.definition.specs.Called.{Question, endOf, listOf, definition-computes}
-use Rattle.definition.specs.DemandThree.{questionOf, Agrees, Demand3, demand-3}
+use Rattle.definition.specs.DemandThree.{questionOf, Demand3, demand-3}
 
 num : ℕ → List ℕ → List ℕ
 num n s = n % 256 ∷ n / 256 % 256 ∷ n / 65536 % 256 ∷ n / 16777216 ∷ s
@@ -49,11 +45,11 @@ manB : List ℕ
 manB = text "{\"exports\":{\"./x\":\"./y.js\",\"./*\":\"./lib/*.js\" }}"
 
 all : Piece 14
-unfolding json-computes entryRead
+unfolding json-computes memberAt
 all = record { entry = record { key = text "./*"; target = str (text "./lib/*.js") }; text = text "\"./*\":\"./lib/*.js\""; reads = refl }
 
 one : Piece 14
-unfolding json-computes entryRead
+unfolding json-computes memberAt
 one = record { entry = record { key = text "./x"; target = str (text "./y.js") }; text = text "\"./x\":\"./y.js\""; reads = refl }
 
 keys : SubpathMap (entriesOf (all ∷ one ∷ []))
@@ -69,8 +65,8 @@ exports = record {
   those = one ∷ all ∷ [];
   order = List·Permᴰ·swap refl refl;
   keys = keys;
-  this = filled [] refl (Layout.more all [] (text " ") refl refl (Layout.last one [] refl));
-  that = filled [] refl (Layout.more one [] [] refl refl (Layout.last all (text " ") refl));
+  this = filled [] refl (nextPiece all [] (text " ") refl refl (lastPiece one [] refl));
+  that = filled [] refl (nextPiece one [] [] refl refl (lastPiece all (text " ") refl));
 }
 
 reordered : Reordered (text "exports" ∷ []) manA manB
@@ -83,7 +79,7 @@ reordered = record {
   other = text "\"exports\":{\"./x\":\"./y.js\",\"./*\":\"./lib/*.js\" }}";
   front-white = refl;
   gap-white = refl;
-  root = RootReordered.last (ownMap (text "\"exports\"") (text "exports") [] [] refl refl refl refl exports) [] refl;
+  root = RootReordered.lastMember (ownMap (text "\"exports\"") (text "exports") [] [] refl refl refl refl exports) [] refl;
   this = refl;
   that = refl;
   faultless = (_, refl);

@@ -10,6 +10,7 @@ use Rattle.definition.specs.Text.{text, if_then_else_, equal}
 use Rattle.definition.specs.TextLaws.{and-true, equal-true, equal-refl}
 use Rattle.definition.specs.Json.{Json, obj, Members, noMember, member}
 use Rattle.definition.specs.Exports.{Context, Resolved, Entry, entries, get, anyKey, isSubpathKey, isDotKey, best, literal, literalOr, bestResolve, PACKAGE-IMPORTS-EXPORTS-RESOLVE, isMixed, dotOr, mainExport, mainResolve, keyResolve, PACKAGE-EXPORTS-RESOLVE}
+use Rattle.definition.specs.Reordered.{SubpathMap}
 use Rattle.definition.specs.FoldLaws.{mem-perm}
 use Rattle.definition.specs.ChosenKeyLaws.{Functional, best-perm}
 
@@ -50,10 +51,6 @@ module _ (k : List ℕ) (all : List Entry) (functional : Functional all) where
   get-perm (List·Permᴰ·swap {a = x} {b = y} {l = l} e f) p =
       two x y (p x (List·Memᴰ·head refl)) (p y (List·Memᴰ·tail (List·Memᴰ·head refl))) (get k l) ∙ rw (e, f)
   get-perm (List·Permᴰ·trans d₁ d₂) p = get-perm d₁ p ∙ get-perm d₂ (λ z m. p z (mem-perm (Permᴰ·symm d₁) m))
-
--- every key is "." or begins with "./" or "#"
-abbrev pub SubpathMap : List Entry → Type 0
-SubpathMap es = (e : Entry) → List·Memᴰ e es → (e .key ≡ text ".") ⊎ (isSubpathKey (e .key) ≡ true)
 
 some-subpath : (e : Entry) (es : List Entry) → SubpathMap (e ∷ es) → get (text ".") (e ∷ es) ≡ none → anyKey isSubpathKey (e ∷ es) ≡ true
 unfolding get anyKey

@@ -9,13 +9,13 @@ use Rattle.definition.specs.Text.{text, equal, startsWith, endsWith, Tex
 use Rattle.definition.specs.Path.{Built, built, tooLong, dirs}
 use Rattle.definition.specs.Specifier.{packageName, packageSubpath, climbing}
 use Rattle.definition.specs.Listing.{Entry, directoryEntry, entryAt}
-use Rattle.definition.specs.Ask.{State, absent, directory, file, Listing, Consult, Step, go, stop, Ask, ret, end, ask, read, number, stateOf, contentsOf, asked, opened, answer, log, then-answer, then-log, answer-bind, log-bind, _>>=_, _>>_}
-use Rattle.definition.specs.ViewLaws.{seen, state-viewed}
+use Rattle.definition.specs.Ask.{State, absent, directory, file, Listing, Consult, Step, go, stop, Ask, ret, end, ask, read, number, stateOf, contentsOf, asked, opened, answer, log, _>>=_, _>>_, seen}
 use Rattle.definition.specs.Settings.{Settings, settingsOf}
 use Rattle.definition.specs.Manifest.{Stop, End, found, stopped, Place, Manifest, view}
 use Rattle.definition.specs.Json.{Fault, malformed, beyond, twice}
 use Rattle.definition.specs.Walk.{Look, Scope, never, when, unless, perhaps, forEach, given, isFileState, isDir, isFile, made, at, bare, notFound, sound, under, orAbove, nearest, own, inScopeDir, tryFile, tryExtension, tryIndex, loadAsFile, loadIndex, loadMain, loadAsDirectory, resolveEsmMatch, byExports, loadPackageExports, inScope, loadPackageSelf, goOn, asDirectory, asFileOrDirectory, inModules, inDirectory, loadNodeModules, lookup, ending}
 use Rattle.definition.specs.Called.{Question, seenBy, endOf, listOf}
+use Rattle.definition.specs.AskLaws.{then-answer, then-log, answer-bind, log-bind, state-viewed}
 
 abbrev Sees : Type 0
 Sees = Step Fault Manifest

@@ -15,9 +15,8 @@ use Rattle.definition.specs.Json.{Json, scalar, str, arr, obj, Members, 
 use Rattle.definition.specs.Exports.{Entry, entries}
 use Rattle.definition.specs.Local.{Taken, Local, Any, no-got, Both, andThen-both}
 use Rattle.definition.specs.JsonLocal.{Delimited, delimited, quoted-local}
-use Rattle.definition.specs.Layout
-use Rattle.definition.specs.Layout.{entryAt, allSpace, Piece, Layout, entryAt-local, entriesOf, members-zero, members-old, members-entry, rest-of}
-use Rattle.definition.specs.Reordered.{ObjectText, empty, filled}
+use Rattle.definition.specs.Layout.{memberAt-local, members-zero, members-old, members-entry, rest-of}
+use Rattle.definition.specs.Reordered.{ObjectText, empty, filled, memberAt, allSpace, Piece, Layout, entriesOf, lastPiece, nextPiece}
 use Rattle.definition.specs.ReorderedLaws.{some-entry, starts-more, bom}
 
 -- the white space in front of a text
@@ -36,7 +35,7 @@ spaced (b ∷ s) = go (isSpace b) refl (spaced s)
     go false h w = record { white = []; blank = refl; cut = rw h }
 
 -- what was read reads by itself
-alone : (deep : ℕ) (s : List ℕ) (e : Entry) (t : List ℕ) → Taken (entryAt (value deep)) Delimited s e t → Piece deep
+alone : (deep : ℕ) (s : List ℕ) (e : Entry) (t : List ℕ) → Taken (memberAt (value deep)) Delimited s e t → Piece deep
 alone deep s e t w = record { entry = e; text = w .front; reads = rw append-nil at (w .again [] (unfold delimited in refl)) }
 
 pub record LaidOut (deep : ℕ) (s : List ℕ) (ms : Members) (r : List ℕ) : Type 0 where
@@ -67,12 +66,12 @@ behind deep names n (b ∷ s) os r h = go (eqb b (code ",")) refl (eqb b (code "
     go false e false f = no-got (rw (e, f) at h)
 
 members-parts : (deep : ℕ) (names : List (List ℕ)) (n : ℕ) (s : List ℕ) (ms : Members) (r : List ℕ) → members (value deep) names (suc n) s ≡ got ms r
-    → (e : Entry) × (t : List ℕ) × (entryAt (value deep) s ≡ got e t) × (rest-of deep names n e t ≡ got ms r)
+    → (e : Entry) × (t : List ℕ) × (memberAt (value deep) s ≡ got e t) × (rest-of deep names n e t ≡ got ms r)
 members-parts deep names n s ms r h =
     let f = some-entry (value deep) names n s ms r h in
     (f .0, f .1, f .2, go (f .0) (f .1) (f .2) (isOneOf names (f .0 .key)) refl)
   where
-    go : (e : Entry) (t : List ℕ) → entryAt (value deep) s ≡ got e t → (u : Bool) → isOneOf names (e .key) ≡ u → rest-of deep names n e t ≡ got ms r
+    go : (e : Entry) (t : List ℕ) → memberAt (value deep) s ≡ got e t → (u : Bool) → isOneOf names (e .key) ≡ u → rest-of deep names n e t ≡ got ms r
     go e t g true x = no-got (sym (members-old deep names n s e t g x) ∙ h)
     go e t g false x = sym (members-entry deep names n s e t g x) ∙ h
 
@@ -92,7 +91,7 @@ laid-out deep names (suc n) s ms r h = go (members-parts deep names n s ms r h) 
           pieces = p ∷ [];
           body = p .text ++ (w .white ++ code "}" ∷ []);
           cut = d;
-          layout = Layout.last p (w .white) (w .blank);
+          layout = lastPiece p (w .white) (w .blank);
           same = subst (λ (m : Members). p .entry ∷ [] ≡ entries m) (ap (λ x. member (p .entry .key) (p .entry .target) x) (sym o) ∙ m) refl;
         }
     by p t w os z y c m (further x g) ih =
@@ -102,13 +101,13 @@ laid-out deep names (suc n) s ms r h = go (members-parts deep names n s ms r h) 
           pieces = p ∷ l .pieces;
           body = p .text ++ (w .white ++ code "," ∷ (v .white ++ l .body));
           cut = c ∙ ap (λ x. p .text ++ x) (w .cut ∙ ap (λ x. w .white ++ x) (y ∙ ap (λ x. code "," ∷ x) (v .cut ∙ ap (λ x. v .white ++ x) (l .cut)))) ∙ simp append-assoc;
-          layout = Layout.more p (w .white) (v .white) (w .blank) (v .blank) (l .layout);
+          layout = nextPiece p (w .white) (v .white) (w .blank) (v .blank) (l .layout);
           same = subst (λ (m : Members). p .entry ∷ entriesOf (l .pieces) ≡ entries m) m (ap (λ x. p .entry ∷ x) (l .same));
         }
 
-    go : (e : Entry) × (t : List ℕ) × (entryAt (value deep) s ≡ got e t) × (rest-of deep names n e t ≡ got ms r) → Ih → LaidOut deep s ms r
+    go : (e : Entry) × (t : List ℕ) × (memberAt (value deep) s ≡ got e t) × (rest-of deep names n e t ≡ got ms r) → Ih → LaidOut deep s ms r
     go (e, t, a, b) ih =
-        let w : Taken (entryAt (value deep)) Delimited s e t = entryAt-local deep s e t a in
+        let w : Taken (memberAt (value deep)) Delimited s e t = memberAt-local deep s e t a in
         let p : Piece deep = alone deep s e t w in
         let d : Both (follow (code "}") noMember (λ u. members (value deep) (e .key ∷ names) n u) (skipSpace t)) (λ ms u. got (member (e .key) (e .target) ms) u) ms r = andThen-both _ _ ms r b in
         let x : d .rest ≡ r = cc (d .second) in
@@ -258,7 +257,7 @@ colon-parts v (b ∷ s) j r h = go (eqb b (code ":")) refl
     go false e = no-got (rw e at h)
 
 pub member-laid : (p : Piece 15) (ms : Members) → p .entry .target ≡ obj ms → MemberLaid p ms
-unfolding entryAt
+unfolding memberAt
 member-laid p ms o = go (andThen-both (quoted (p .text)) _ (p .entry) [] (p .reads))
   where
     After : List ℕ → List ℕ → Read Entry

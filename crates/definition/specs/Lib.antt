@@ -5,6 +5,7 @@ pub mod Specifier
 pub mod Listing
 pub mod Settings
 pub mod Json
+pub mod JsonGrammar
 pub mod Exports
 pub mod Ask
 pub mod Manifest
@@ -18,6 +19,7 @@ pub mod PathSteps
 pub mod ListingSteps
 pub mod ListingOrder
 pub mod WalkPathLaws
+pub mod AskLaws
 pub mod KeyOrderLaws
 pub mod FoldLaws
 pub mod ChosenKeyLaws

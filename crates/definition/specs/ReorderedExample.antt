@@ -8,10 +8,7 @@ use lib.ListN.{length}
 use Rattle.definition.specs.Text.{text, text-computes}
 use Rattle.definition.specs.Json.{Json, str, obj, Members, noMember, member, Read, got, parse, json-computes}
 use Rattle.definition.specs.Exports.{Entry, isSubpathKey}
-use Rattle.definition.specs.ExportsOrderLaws.{SubpathMap}
-use Rattle.definition.specs.Layout
-use Rattle.definition.specs.Layout.{Piece, Layout, entryAt, allSpace, entriesOf}
-use Rattle.definition.specs.Reordered.{ObjectText, filled, MapReordered, MemberReordered, unchanged, ownMap, RootReordered, Reordered}
+use Rattle.definition.specs.Reordered.{ObjectText, filled, MapReordered, MemberReordered, unchanged, ownMap, RootReordered, Reordered, SubpathMap, Piece, Layout, memberAt, allSpace, entriesOf, lastPiece, nextPiece}
 
 a : List ℕ
 a = text "{\"name\":\"m\",\"exports\" : {\"./a\":\"./x.js\", \"./b*\":\"./y.js\"}}"
@@ -20,15 +17,15 @@ b : List ℕ
 b = text "{\"name\":\"m\",\"exports\" : { \"./b*\":\"./y.js\",\"./a\":\"./x.js\"}}"
 
 one : Piece 14
-unfolding json-computes entryAt
+unfolding json-computes memberAt
 one = record { entry = record { key = text "./a"; target = str (text "./x.js") }; text = text "\"./a\":\"./x.js\""; reads = refl }
 
 two : Piece 14
-unfolding json-computes entryAt
+unfolding json-computes memberAt
 two = record { entry = record { key = text "./b*"; target = str (text "./y.js") }; text = text "\"./b*\":\"./y.js\""; reads = refl }
 
 name : Piece 15
-unfolding json-computes entryAt
+unfolding json-computes memberAt
 name = record { entry = record { key = text "name"; target = str (text "m") }; text = text "\"name\":\"m\""; reads = refl }
 
 keys : SubpathMap (entriesOf (one ∷ two ∷ []))
@@ -44,8 +41,8 @@ map = record {
   those = two ∷ one ∷ [];
   order = List·Permᴰ·swap refl refl;
   keys = keys;
-  this = filled [] refl (Layout.more one [] (text " ") refl refl (Layout.last two [] refl));
-  that = filled (text " ") refl (Layout.more two [] [] refl refl (Layout.last one [] refl));
+  this = filled [] refl (nextPiece one [] (text " ") refl refl (lastPiece two [] refl));
+  that = filled (text " ") refl (nextPiece two [] [] refl refl (lastPiece one [] refl));
 }
 
 shown : Reordered (text "exports" ∷ []) a b
@@ -58,7 +55,7 @@ shown = record {
   other = text "\"name\":\"m\",\"exports\" : { \"./b*\":\"./y.js\",\"./a\":\"./x.js\"}}";
   front-white = refl;
   gap-white = refl;
-  root = RootReordered.more (unchanged name) [] [] refl refl (RootReordered.last (ownMap (text "\"exports\"") (text "exports") (text " ") (text " ") refl refl refl refl map) [] refl);
+  root = RootReordered.nextMember (unchanged name) [] [] refl refl (RootReordered.lastMember (ownMap (text "\"exports\"") (text "exports") (text " ") (text " ") refl refl refl refl map) [] refl);
   this = refl;
   that = refl;
   faultless = (_, refl);

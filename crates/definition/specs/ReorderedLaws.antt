@@ -15,13 +15,11 @@ use Rattle.definition.specs.TextLaws.{startsWith-length}
 use Rattle.definition.specs.Json.{Json, obj, Members, noMember, member, Read, got, Fault, malformed, beyond, twice, fault, andThen, isSpace, skipSpace, quoted, follow, memberName, colon, members, object, valueBy, value, atEnd, document, replaceBom, parse}
 use Rattle.definition.specs.Exports.{Entry, entries}
 use Rattle.definition.specs.ChosenKeyLaws.{Functional}
-use Rattle.definition.specs.ExportsOrderLaws.{SubpathMap}
 use Rattle.definition.specs.Local.{Taken, Local, Any, no-got, Both, andThen-both}
 use Rattle.definition.specs.JsonLocal.{Delimited, delimited, isDelimiter, quoted-local}
-use Rattle.definition.specs.Layout
-use Rattle.definition.specs.Layout.{entryAt, allSpace, Piece, Layout, again, piece-reads, piece-quote, quote-first, Distinct, New, entriesOf, membersOf, skip-spaces, spaces-delimited, rest-of, members-entry, members-old, members-zero, follow-close, follow-comma, closes, comma, layout-skip, layout-members, layout-new, Permᴰ·length, distinct-perm, new-of, new-apart, apart-nil, perm-entries, entries-of}
+use Rattle.definition.specs.Layout.{again, piece-reads, piece-quote, quote-first, Distinct, New, membersOf, skip-spaces, spaces-delimited, rest-of, members-entry, members-old, members-zero, follow-close, follow-comma, closes, comma, layout-skip, layout-members, layout-new, Permᴰ·length, distinct-perm, new-of, new-apart, apart-nil, perm-entries, entries-of}
 use Rattle.definition.specs.SameMapLaws.{distinct-functional}
-use Rattle.definition.specs.Reordered.{ObjectText, empty, filled, MapReordered, MemberReordered, unchanged, ownMap, RootReordered, Reordered, Faultless}
+use Rattle.definition.specs.Reordered.{ObjectText, empty, filled, MapReordered, MemberReordered, unchanged, ownMap, RootReordered, Reordered, Faultless, SubpathMap, memberAt, allSpace, Piece, Layout, entriesOf, lastPiece, nextPiece}
 
 -- a value in the two files
 pub data SameValue : Json → Json → Type 0 where
@@ -54,12 +52,12 @@ unfolding skipWhile isSpace
 quote-skip s q t = rw (q .1)
 
 layout-quote : {deep : ℕ} {ps : List (Piece deep)} {s : List ℕ} → Layout deep ps s → (rest : List ℕ) × (s ≡ 34 ∷ rest)
-layout-quote (Layout.last p x h) = let q = piece-quote p in (q .0 ++ (x ++ code "}" ∷ []), ap (λ z. z ++ (x ++ code "}" ∷ [])) (q .1))
-layout-quote (Layout.more p x y h k {s = s} l) = let q = piece-quote p in (q .0 ++ (x ++ code "," ∷ (y ++ s)), ap (λ z. z ++ (x ++ code "," ∷ (y ++ s))) (q .1))
+layout-quote (lastPiece p x h) = let q = piece-quote p in (q .0 ++ (x ++ code "}" ∷ []), ap (λ z. z ++ (x ++ code "}" ∷ [])) (q .1))
+layout-quote (nextPiece p x y h k {s = s} l) = let q = piece-quote p in (q .0 ++ (x ++ code "," ∷ (y ++ s)), ap (λ z. z ++ (x ++ code "," ∷ (y ++ s))) (q .1))
 
 layout-some : {deep : ℕ} {ps : List (Piece deep)} {s : List ℕ} → Layout deep ps s → 1 ≤ length ps
-layout-some (Layout.last p x h) = omega arith
-layout-some (Layout.more p x y h k l) = omega arith
+layout-some (lastPiece p x h) = omega arith
+layout-some (nextPiece p x y h k l) = omega arith
 
 filled-reads : (deep : ℕ) (x s : List ℕ) → allSpace x ≡ true → (rest : List ℕ) × (s ≡ 34 ∷ rest) → (t : List ℕ)
     → value (suc deep) ((code "{" ∷ (x ++ s)) ++ t) ≡ andThen (members (value deep) [] 128 (s ++ t)) (λ ms r. got (obj ms) r)
@@ -113,8 +111,8 @@ two-maps these those (filled x h {s = s} l) (filled y k {s = s′} l′) d m t j
 
 -- a member whose value is a map
 member-reads : (v : List ℕ → Read Json) (key name x y : List ℕ) → quoted key ≡ got name [] → allSpace x ≡ true → allSpace y ≡ true → (m : List ℕ) (t : List ℕ)
-    → entryAt v ((key ++ (x ++ code ":" ∷ (y ++ code "{" ∷ m))) ++ t) ≡ andThen (v (code "{" ∷ m ++ t)) (λ j r. got (record { key = name; target = j }) r)
-unfolding entryAt
+    → memberAt v ((key ++ (x ++ code ":" ∷ (y ++ code "{" ∷ m))) ++ t) ≡ andThen (v (code "{" ∷ m ++ t)) (λ j r. got (record { key = name; target = j }) r)
+unfolding memberAt
 member-reads v key name x y q h k m t =
     let cut : (key ++ (x ++ code ":" ∷ (y ++ code "{" ∷ m))) ++ t ≡ key ++ (x ++ code ":" ∷ (y ++ code "{" ∷ (m ++ t))) = simp append-assoc in
     let a : quoted (key ++ (x ++ code ":" ∷ (y ++ code "{" ∷ (m ++ t)))) ≡ got name (x ++ code ":" ∷ (y ++ code "{" ∷ (m ++ t))) = again key name (quoted-local key name [] q) _ tt in
@@ -130,8 +128,8 @@ member-reads v key name x y q h k m t =
 record TwoMembers (a b : List ℕ) : Type 0 where
   left : Entry
   right : Entry
-  this : (t : List ℕ) → Delimited t → entryAt (value 15) (a ++ t) ≡ got left t
-  that : (t : List ℕ) → Delimited t → entryAt (value 15) (b ++ t) ≡ got right t
+  this : (t : List ℕ) → Delimited t → memberAt (value 15) (a ++ t) ≡ got left t
+  that : (t : List ℕ) → Delimited t → memberAt (value 15) (b ++ t) ≡ got right t
   alike : SameEntry left right
 
 -- an object's text begins with its bracket
@@ -145,7 +143,7 @@ member-quote (ownMap key name x y {a} {b} q f h k m) =
     let k : (rest : List ℕ) × (key ≡ 34 ∷ rest) = quote-first key name [] q in
     ((k .0 ++ (x ++ code ":" ∷ (y ++ a)), ap (λ z. z ++ (x ++ code ":" ∷ (y ++ a))) (k .1)), (k .0 ++ (x ++ code ":" ∷ (y ++ b)), ap (λ z. z ++ (x ++ code ":" ∷ (y ++ b))) (k .1)))
 
-two-members : {fields : List (List ℕ)} {a b : List ℕ} → MemberReordered fields a b → (t : List ℕ) (e : Entry) (r : List ℕ) → entryAt (value 15) (a ++ t) ≡ got e r → TwoMembers a b
+two-members : {fields : List (List ℕ)} {a b : List ℕ} → MemberReordered fields a b → (t : List ℕ) (e : Entry) (r : List ℕ) → memberAt (value 15) (a ++ t) ≡ got e r → TwoMembers a b
 two-members (unchanged p) t e r g = record {
   left = p .entry;
   right = p .entry;
@@ -156,8 +154,8 @@ two-members (unchanged p) t e r g = record {
 two-members (ownMap key name x y {a} {b} q f h k m) t e r g =
     let u : (m : List ℕ) × (a ≡ code "{" ∷ m) = object-brace (m .this) in
     let w : (m : List ℕ) × (b ≡ code "{" ∷ m) = object-brace (m .that) in
-    let A : (t : List ℕ) → entryAt (value 15) ((key ++ (x ++ code ":" ∷ (y ++ a))) ++ t) ≡ andThen (value 15 (a ++ t)) (λ j r. got (record { key = name; target = j }) r) = λ t. rw (u .1) (member-reads (value 15) key name x y q h k (u .0) t) in
-    let B : (t : List ℕ) → entryAt (value 15) ((key ++ (x ++ code ":" ∷ (y ++ b))) ++ t) ≡ andThen (value 15 (b ++ t)) (λ j r. got (record { key = name; target = j }) r) = λ t. rw (w .1) (member-reads (value 15) key name x y q h k (w .0) t) in
+    let A : (t : List ℕ) → memberAt (value 15) ((key ++ (x ++ code ":" ∷ (y ++ a))) ++ t) ≡ andThen (value 15 (a ++ t)) (λ j r. got (record { key = name; target = j }) r) = λ t. rw (u .1) (member-reads (value 15) key name x y q h k (u .0) t) in
+    let B : (t : List ℕ) → memberAt (value 15) ((key ++ (x ++ code ":" ∷ (y ++ b))) ++ t) ≡ andThen (value 15 (b ++ t)) (λ j r. got (record { key = name; target = j }) r) = λ t. rw (w .1) (member-reads (value 15) key name x y q h k (w .0) t) in
     let c : Both (value 15 (a ++ t)) (λ j r. got (record { key = name; target = j }) r) e r = andThen-both _ _ e r (sym (A t) ∙ g) in
     let z : TwoMaps a b = two-maps (m .these) (m .those) (m .this) (m .that) (m .order) (m .keys) t (c .value) (c .rest) (c .first) in
     record {
@@ -168,13 +166,13 @@ two-members (ownMap key name x y {a} {b} q f h k m) t e r g =
       alike = record { names = refl; values = z .alike };
     }
 
-pub entry-of : (v : List ℕ → Read Json) (s k r : List ℕ) (j : Json) (t : List ℕ) → quoted s ≡ got k r → colon v (skipSpace r) ≡ got j t → entryAt v s ≡ got (record { key = k; target = j }) t
-unfolding entryAt
+pub entry-of : (v : List ℕ → Read Json) (s k r : List ℕ) (j : Json) (t : List ℕ) → quoted s ≡ got k r → colon v (skipSpace r) ≡ got j t → memberAt v s ≡ got (record { key = k; target = j }) t
+unfolding memberAt
 entry-of v s k r j t q c = rw q (rw c)
 
 -- what `members` read began with a member
-pub some-entry : (v : List ℕ → Read Json) (names : List (List ℕ)) (n : ℕ) (s : List ℕ) (ms : Members) (r : List ℕ) → members v names (suc n) s ≡ got ms r → (e : Entry) × (t : List ℕ) × (entryAt v s ≡ got e t)
-unfolding members memberName entryAt
+pub some-entry : (v : List ℕ → Read Json) (names : List (List ℕ)) (n : ℕ) (s : List ℕ) (ms : Members) (r : List ℕ) → members v names (suc n) s ≡ got ms r → (e : Entry) × (t : List ℕ) × (memberAt v s ≡ got e t)
+unfolding members memberName memberAt
 some-entry v names n s ms r h =
     let a : Both (memberName names s) (λ k r. andThen (colon v (skipSpace r)) λ j t. andThen (follow (code "}") noMember (λ u. members v (k ∷ names) n u) (skipSpace t)) λ ms u. got (member k j ms) u) ms r = andThen-both _ _ ms r h in
     let b : Both (quoted s) (λ k r. if isOneOf names k then fault twice else got k r) (a .value) (a .rest) = andThen-both _ _ (a .value) (a .rest) (a .first) in
@@ -219,19 +217,19 @@ unfolding rest-of
 rest-comma names n e x y s h k q t = rw (skip-spaces x (code "," ∷ (y ++ (s ++ t))) h, follow-comma 15, skip-spaces y (s ++ t) k, quote-skip s q t)
 
 root-quote : {fields : List (List ℕ)} {s t : List ℕ} → RootReordered fields s t → ((rest : List ℕ) × (s ≡ 34 ∷ rest)) × ((rest : List ℕ) × (t ≡ 34 ∷ rest))
-root-quote (RootReordered.last m x h) = let q = member-quote m in ((_, ap (λ z. z ++ (x ++ code "}" ∷ [])) (q .0 .1)), (_, ap (λ z. z ++ (x ++ code "}" ∷ [])) (q .1 .1)))
-root-quote (RootReordered.more m x y h k {s} {t} l) = let q = member-quote m in ((_, ap (λ z. z ++ (x ++ code "," ∷ (y ++ s))) (q .0 .1)), (_, ap (λ z. z ++ (x ++ code "," ∷ (y ++ t))) (q .1 .1)))
+root-quote (RootReordered.lastMember m x h) = let q = member-quote m in ((_, ap (λ z. z ++ (x ++ code "}" ∷ [])) (q .0 .1)), (_, ap (λ z. z ++ (x ++ code "}" ∷ [])) (q .1 .1)))
+root-quote (RootReordered.nextMember m x y h k {s} {t} l) = let q = member-quote m in ((_, ap (λ z. z ++ (x ++ code "," ∷ (y ++ s))) (q .0 .1)), (_, ap (λ z. z ++ (x ++ code "," ∷ (y ++ t))) (q .1 .1)))
 
 two-roots : {fields : List (List ℕ)} {s s′ : List ℕ} → RootReordered fields s s′ → (names : List (List ℕ)) (n : ℕ) (t : List ℕ) (ms : Members) (r : List ℕ)
     → members (value 15) names n (s ++ t) ≡ got ms r → TwoRoots names n ms r s′ t
 unfolding entries
 two-roots l names zero t ms r h = absurd (members-zero 15 names _ ms r h)
-two-roots (RootReordered.last {a} {b} m x w) names (suc n) t ms r h = go (two-members m (x ++ code "}" ∷ t) (first .0) (first .1) (first .2))
+two-roots (RootReordered.lastMember {a} {b} m x w) names (suc n) t ms r h = go (two-members m (x ++ code "}" ∷ t) (first .0) (first .1) (first .2))
   where
     cut : (c : List ℕ) → (c ++ (x ++ code "}" ∷ [])) ++ t ≡ c ++ (x ++ code "}" ∷ t)
     cut c = simp append-assoc
 
-    first : (e : Entry) × (u : List ℕ) × (entryAt (value 15) (a ++ (x ++ code "}" ∷ t)) ≡ got e u)
+    first : (e : Entry) × (u : List ℕ) × (memberAt (value 15) (a ++ (x ++ code "}" ∷ t)) ≡ got e u)
     first = some-entry (value 15) names n (a ++ (x ++ code "}" ∷ t)) ms r (rw (cut a) at h)
 
     far : Delimited (x ++ code "}" ∷ t)
@@ -249,12 +247,12 @@ two-roots (RootReordered.last {a} {b} m x w) names (suc n) t ms r h = go (two-me
           reads = ap (λ z. members (value 15) names (suc n) z) (cut b) ∙ that-step names n two (x ++ code "}" ∷ t) far f ∙ rest-close names n (two .right) x t w;
           alike = subst (λ (m : Members). SameEntries (entries m) (entries (member (two .right .key) (two .right .target) noMember))) g (one (two .alike) none);
         }
-two-roots (RootReordered.more {a} {b} m x y w v {s = s} {t = s′} l) names (suc n) t ms r h = go (two-members m (x ++ code "," ∷ (y ++ (s ++ t))) (first .0) (first .1) (first .2)) (λ k. two-roots l (k ∷ names) n t)
+two-roots (RootReordered.nextMember {a} {b} m x y w v {s = s} {t = s′} l) names (suc n) t ms r h = go (two-members m (x ++ code "," ∷ (y ++ (s ++ t))) (first .0) (first .1) (first .2)) (λ k. two-roots l (k ∷ names) n t)
   where
     cut : (c u : List ℕ) → (c ++ (x ++ code "," ∷ (y ++ u))) ++ t ≡ c ++ (x ++ code "," ∷ (y ++ (u ++ t)))
     cut c u = simp append-assoc
 
-    first : (e : Entry) × (u : List ℕ) × (entryAt (value 15) (a ++ (x ++ code "," ∷ (y ++ (s ++ t)))) ≡ got e u)
+    first : (e : Entry) × (u : List ℕ) × (memberAt (value 15) (a ++ (x ++ code "," ∷ (y ++ (s ++ t)))) ≡ got e u)
     first = some-entry (value 15) names n (a ++ (x ++ code "," ∷ (y ++ (s ++ t)))) ms r (rw (cut a s) at h)
 
     far : (u : List ℕ) → Delimited (x ++ code "," ∷ u)

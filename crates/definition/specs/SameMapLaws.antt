@@ -8,8 +8,9 @@ use Rattle.definition.specs.TextLaws.{equal-refl}
 use Rattle.definition.specs.Json.{Json, obj, Members, Read, got, members, value}
 use Rattle.definition.specs.Exports.{Context, Entry, entries, PACKAGE-EXPORTS-RESOLVE}
 use Rattle.definition.specs.ChosenKeyLaws.{Functional}
-use Rattle.definition.specs.ExportsOrderLaws.{SubpathMap, PACKAGE-EXPORTS-RESOLVE-perm}
-use Rattle.definition.specs.Layout.{Piece, Layout, NoKey, Distinct, New, new-apart}
+use Rattle.definition.specs.ExportsOrderLaws.{PACKAGE-EXPORTS-RESOLVE-perm}
+use Rattle.definition.specs.Layout.{NoKey, Distinct, New, new-apart}
+use Rattle.definition.specs.Reordered.{SubpathMap, Piece, Layout}
 
 no-key : (k : List ℕ) (e : Entry) (es : List Entry) → NoKey k es → List·Memᴰ e es → k ≡ e .key → ⊥
 no-key k e es n (List·Memᴰ·head {x = x} p) q =

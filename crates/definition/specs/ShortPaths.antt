@@ -17,8 +17,7 @@ use Rattle.definition.specs.Json.{Json, Read, got, Fault, malformed, bey
 use Rattle.definition.specs.Exports.{Context, Outcome, PACKAGE-EXPORTS-RESOLVE}
 use Rattle.definition.specs.FitLaws.{Fit, BuiltFits, normalizeWith-fits, addExtension-fits, addNameAndExtension-fits, OutcomeFits, exports-fit, parent-short, AllAtMost, dirs-short, manifest-short}
 use Rattle.definition.specs.Listing.{Entry, noEntry, directoryEntry, fileEntry, Row, rows, entryOf, entryIn, entryAt, rowFits, isManifest, sizesFit, passes30, passes31, isDirectoryOf, accepted}
-use Rattle.definition.specs.Ask.{State, absent, directory, file, Listing, Consult, Step, go, stop, Ask, ret, end, ask, read, stateOf, contentsOf, asked, opened, answer, log, then-answer, then-log, answer-bind, log-bind, _>>=_, _>>_}
-use Rattle.definition.specs.ViewLaws.{seen, viewed, state-viewed}
+use Rattle.definition.specs.Ask.{State, absent, directory, file, Listing, Consult, Step, go, stop, Ask, ret, end, ask, read, stateOf, contentsOf, asked, opened, answer, log, _>>=_, _>>_, seen, viewed}
 use Rattle.definition.specs.Settings.{Settings, settingsOf, passes24}
 use Rattle.definition.specs.Manifest.{Stop, End, found, stopped, Place, Manifest, fresh, resolvedTo, resolveExports, firstField, exportsOf, manifestView, viewOf, view}
 use Rattle.definition.specs.Walk.{Look, Scope, never, when, unless, perhaps, forEach, given, isDir, isDirState, isFile, made, at, bare, notFound, sound, mainPath, under, orAbove, nearest, ifOwn, own, inScopeDir, tryFile, tryExtension, tryIndex, loadAsFile, loadIndex, loadMain, loadAsDirectory, resolveEsmMatch, byExports, loadPackageExports, inScope, loadPackageSelf, goOn, asDirectory, asFileOrDirectory, inModules, inDirectory, loadNodeModules, lookup}
@@ -26,6 +25,7 @@ use Rattle.definition.specs.BoundLaws.{dir-of}
 use Rattle.definition.specs.DepthLaws.{folder-of, folder-at}
 use Rattle.definition.specs.Called.{Question, seenBy, endOf, listOf, joined, paths}
 use Rattle.definition.specs.DemandThree.{shortest-list}
+use Rattle.definition.specs.AskLaws.{then-answer, then-log, answer-bind, log-bind, state-viewed}
 
 abbrev Sees : Type 0
 Sees = Step Fault Manifest

@@ -5,30 +5,12 @@ use mathlib.Core.Option.{Option, none, some}
 use Prim.Native.Nat.{ℕ}
 use Rattle.definition.specs.Text.{Text}
 use Rattle.definition.specs.Listing.{Entry, noEntry, directoryEntry, fileEntry}
-use Rattle.definition.specs.Ask.{State, Listing, Consult, Step, Ask, stateOf, answer, log}
+use Rattle.definition.specs.Ask.{State, Listing, Consult, Step, Ask, stateOf, answer, log, viewed, seen}
+use Rattle.definition.specs.AskLaws.{state-viewed}
+use Rattle.definition.specs.Reordered.{Alike}
 use Rattle.definition.specs.AgreeLaws.{Same, Agree, agree-answer, agree-log}
 
--- 01: the two have the same state, and at state 3 two files that are related
-pub record Alike {N : Type 0} (R : N → N → Type 0) (A B : Listing N) (c : Consult) : Type 0 where
-  pub kind : stateOf (A (c .path)) ≡ stateOf (B (c .path))
-  pub contents : c .state ≡ 3 → (a b : N) → A (c .path) ≡ fileEntry a → B (c .path) ≡ fileEntry b → R a b
-
 module _ {N M : Type 0} where
-  unfoldable pub viewed : (N → M) → Entry N → Entry M
-  viewed view noEntry = noEntry
-  viewed view directoryEntry = directoryEntry
-  viewed view (fileEntry b) = fileEntry (view b)
-
-  -- a listing as a routine sees it
-  unfoldable pub seen : (N → M) → Listing N → Listing M
-  seen view L p = viewed view (L p)
-
-  pub state-viewed : (view : N → M) (e : Entry N) → stateOf (viewed view e) ≡ stateOf e
-  unfolding stateOf viewed
-  state-viewed view noEntry = refl
-  state-viewed view directoryEntry = refl
-  state-viewed view (fileEntry b) = refl
-
   module _ (view : N → M) (R : N → N → Type 0) (kept : (a b : N) → R a b → view a ≡ view b) where
     same-view : (a b : Entry N) → stateOf a ≡ stateOf b → ((v w : N) → a ≡ fileEntry v → b ≡ fileEntry w → R v w) → viewed view a ≡ viewed view b
     unfolding stateOf viewed
