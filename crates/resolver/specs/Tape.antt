@@ -7,7 +7,8 @@ use mathlib.Core.Option.{Option}
 use native.Mathlib.Omega.{arith}
 use lib.ListN.{length, set, getD}
 use Rattle.definition.specs.Text.{Text, overwrite}
-use Rattle.definition.specs.Ask.{State, Listing, Consult, Step, go, stop, Ask, ret, end, ask, read, stateOf, contentsOf, asked, opened, answer, log, then-answer, then-log, answer-bind, log-bind, _>>=_, _>>_}
+use Rattle.definition.specs.Ask.{State, Listing, Consult, Step, go, stop, Ask, ret, end, ask, read, stateOf, contentsOf, asked, opened, answer, log, _>>=_, _>>_}
+use Rattle.definition.specs.AskLaws.{then-answer, then-log, answer-bind, log-bind}
 use Rattle.definition.specs.Manifest.{End, endNumber, endTexts}
 use Rattle.definition.specs.Called.{joined}
 use Rattle.resolver.specs.declared.Ending.{Ending}

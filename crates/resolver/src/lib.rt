@@ -66,15 +66,3 @@ fn note_number(nums: &mut [u32], count: usize, n: usize, state: u8)
         nums[count + 2] = ((n % 65536) as u32) + 65536 * (state as u32);
     }
 }
-
-// One consult more in the list.
-fn note(path: &[u8], state: u8, nums: &mut [u32], text: &mut [u8], m: Mark) -> Mark
-    ensures { λ r. ⌜ ((result : List ℕ) → tapeOf result (now (nums .exit)) (now (text .exit)) r ≡ put (tapeOf result (now (nums .entry)) (now (text .entry)) m) (consult (now (path .entry)) state)) ⌝ }
-{
-    note_number(nums, m.count, path.len(), state);
-    text::copy_at(text, m.size, path);
-    Mark {
-        count: more(m.count, 1),
-        size: more(m.size, path.len()),
-    }
-}
