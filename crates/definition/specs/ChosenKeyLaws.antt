@@ -9,7 +9,7 @@ use lib.Dec.{ltb, leb·suc-suc}
 use borrow.Author.Tests.{lt-ltb}
 use Rattle.definition.specs.Text.{if_then_else_, equal}
 use Rattle.definition.specs.TextLaws.{equal-true, equal-refl}
-use Rattle.definition.specs.Exports.{Entry, isGt, patternKeyCompare, matches, bestKey, better, best}
+use Rattle.definition.specs.Exports.{Entry, isGt, PATTERN-KEY-COMPARE, matches, bestKey, better, best}
 use Rattle.definition.specs.KeyOrderLaws.{rank, rank-inj, compare-rank}
 use Rattle.definition.specs.FoldLaws.{mem-perm, fold, fold-perm, greater, greater-commutes}
 
@@ -32,7 +32,7 @@ module _ (mk : List ℕ) (es : List Entry) (functional : Functional es) where
 
   keeps : (b : Option Entry) (e : Entry) → Best b → List·Memᴰ e es → Best (better mk b e)
   unfolding better Best
-  keeps b e i m = go (matches mk (e .key)) refl (isGt (patternKeyCompare (bestKey b) (e .key)))
+  keeps b e i m = go (matches mk (e .key)) refl (isGt (PATTERN-KEY-COMPARE (bestKey b) (e .key)))
     where
       go : (t : Bool) → matches mk (e .key) ≡ t → (u : Bool) → Best (if t && u then some e else b)
       go true h true = (m, h)
@@ -45,7 +45,7 @@ module _ (mk : List ℕ) (es : List Entry) (functional : Functional es) where
   same-best e f m n p q h = ap some (functional e f m n (rank-inj mk (e .key) (f .key) p q (omega arith)))
 
   better-is : (b : Option Entry) (e : Entry) → Best b → List·Memᴰ e es → better mk b e ≡ byScore mk b e
-  unfolding better byScore greater score bestKey patternKeyCompare isGt Best
+  unfolding better byScore greater score bestKey PATTERN-KEY-COMPARE isGt Best
   better-is none e i m = go (matches mk (e .key))
     where
       go : (t : Bool) → (if t && true then some e else none) ≡ (if t then (if ltb 0 (suc (rank mk (e .key))) then some e else none) else none)
@@ -58,10 +58,10 @@ module _ (mk : List ℕ) (es : List Entry) (functional : Functional es) where
       one p false = ap some p
 
       keys : (t : Bool) → equal (f .key) (e .key) ≡ t → matches mk (e .key) ≡ true
-          → (if isGt (patternKeyCompare (f .key) (e .key)) then some e else some f) ≡ (if ltb (suc (rank mk (f .key))) (suc (rank mk (e .key))) then some e else some f)
+          → (if isGt (PATTERN-KEY-COMPARE (f .key) (e .key)) then some e else some f) ≡ (if ltb (suc (rank mk (f .key))) (suc (rank mk (e .key))) then some e else some f)
       keys true q h =
           let p : f ≡ e = functional f e (i .0) m (equal-true (f .key) (e .key) q) in
-          one p (isGt (patternKeyCompare (f .key) (e .key))) ∙ sym (one p (ltb (suc (rank mk (f .key))) (suc (rank mk (e .key)))))
+          one p (isGt (PATTERN-KEY-COMPARE (f .key) (e .key))) ∙ sym (one p (ltb (suc (rank mk (f .key))) (suc (rank mk (e .key)))))
       keys false q h =
           let d : f .key ≡ e .key → ⊥ = λ p. true≢false (sym (rw p (equal-refl (e .key))) ∙ q) in
           rw (compare-rank mk (f .key) (e .key) (i .1) h d, leb·suc-suc (suc (rank mk (f .key))) (rank mk (e .key)))

@@ -17,10 +17,10 @@ use Rattle.definition.specs.ViewLaws.{same-answer, same-log}
 use Rattle.definition.specs.Settings.{Settings, settingsOf, textsOf, passes24}
 use Rattle.definition.specs.Manifest.{End, isAnswer, view}
 use Rattle.definition.specs.Walk.{lookup, ending}
-use Rattle.definition.specs.LengthBound.{W, most-lookup, limits}
+use Rattle.definition.specs.LengthBound.{most-lookup, limits}
 use Rattle.definition.specs.ManifestViewLaws.{kept}
 use Rattle.definition.specs.DepthLaws.{tall, folder-of, folder-at, height-low, Few, few}
-use Rattle.definition.specs.Called.{Question, Defined, definition, seenBy, endOf, listOf, Rooms, Left, check, refusalOf, delivered, unlessRefused, called}
+use Rattle.definition.specs.Called.{Question, Defined, definition, seenBy, endOf, listOf, W, formula, Rooms, Left, check, refusalOf, delivered, unlessRefused, called}
 use Rattle.definition.specs.AskLaws.{state-viewed}
 
 -- one question asked of a listing
@@ -80,10 +80,6 @@ short-list q s = most-lookup (seenBy G l) G h deep (omega (arith, start-deep, le
 
     start-deep : length (dirs (q .start)) ≤ h
     start-deep = folder-deep (q .start) (folder-at l (q .start) s)
-
--- 01's formula for a question
-unfoldable pub formula : Question → ℕ
-formula q = let d = length (dirs (q .start)) in d + 2 * (d * W (settingsOf (q .settings)) (height (rows (q .listing))))
 
 -- DEMAND 3, WHOLE
 pub record Demand3 (A B : Question) : Type 0 where

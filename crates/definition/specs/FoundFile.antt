@@ -13,7 +13,7 @@ use Rattle.definition.specs.Ask.{State, absent, directory, file, Listing
 use Rattle.definition.specs.Settings.{Settings, settingsOf}
 use Rattle.definition.specs.Manifest.{Stop, End, found, stopped, Place, Manifest, view}
 use Rattle.definition.specs.Json.{Fault, malformed, beyond, twice}
-use Rattle.definition.specs.Walk.{Look, Scope, never, when, unless, perhaps, forEach, given, isFileState, isDir, isFile, made, at, bare, notFound, sound, under, orAbove, nearest, own, inScopeDir, tryFile, tryExtension, tryIndex, loadAsFile, loadIndex, loadMain, loadAsDirectory, resolveEsmMatch, byExports, loadPackageExports, inScope, loadPackageSelf, goOn, asDirectory, asFileOrDirectory, inModules, inDirectory, loadNodeModules, lookup, ending}
+use Rattle.definition.specs.Walk.{Look, Scope, never, when, unless, perhaps, forEach, given, isFileState, isDir, isFile, made, at, bare, notFound, sound, under, orAbove, nearest, own, inScopeDir, tryFile, tryExtension, tryIndex, LOAD-AS-FILE, LOAD-INDEX, loadMain, LOAD-AS-DIRECTORY, RESOLVE-ESM-MATCH, byExports, LOAD-PACKAGE-EXPORTS, inScope, LOAD-PACKAGE-SELF, goOn, asDirectory, asFileOrDirectory, inModules, inDirectory, LOAD-NODE-MODULES, lookup, ending}
 use Rattle.definition.specs.Called.{Question, seenBy, endOf, listOf}
 use Rattle.definition.specs.AskLaws.{then-answer, then-log, answer-bind, log-bind, state-viewed}
 
@@ -137,13 +137,13 @@ module _ (L : Listing Sees) (G : Settings) where
   unfolding tryIndex
   proper-tryIndex w f x = proper-bind (proper-made _) (λ q. proper-tryFile _)
 
-  proper-loadAsFile : (w : Place) → Proper L (loadAsFile G w)
-  unfolding loadAsFile
-  proper-loadAsFile w = proper-seq (proper-tryFile w) (proper-forEach (G .extensions) (proper-tryExtension w))
+  proper-LOAD-AS-FILE : (w : Place) → Proper L (LOAD-AS-FILE G w)
+  unfolding LOAD-AS-FILE
+  proper-LOAD-AS-FILE w = proper-seq (proper-tryFile w) (proper-forEach (G .extensions) (proper-tryExtension w))
 
-  proper-loadIndex : (w : Place) → Proper L (loadIndex G w)
-  unfolding loadIndex
-  proper-loadIndex w = proper-forEach (G .mainFiles) (λ f. proper-forEach (G .extensions) (proper-tryIndex w f))
+  proper-LOAD-INDEX : (w : Place) → Proper L (LOAD-INDEX G w)
+  unfolding LOAD-INDEX
+  proper-LOAD-INDEX w = proper-forEach (G .mainFiles) (λ f. proper-forEach (G .extensions) (proper-tryIndex w f))
 
   proper-under : (p x : Text) → Proper L (under G p x)
   unfolding under
@@ -165,30 +165,30 @@ module _ (L : Listing Sees) (G : Settings) where
 
   proper-loadMain : (w : Place) (x : Text) → Proper L (loadMain G w x)
   unfolding loadMain
-  proper-loadMain w x = proper-bind (proper-under _ _) (λ q. proper-seq (proper-loadAsFile _) (proper-loadIndex _))
+  proper-loadMain w x = proper-bind (proper-under _ _) (λ q. proper-seq (proper-LOAD-AS-FILE _) (proper-LOAD-INDEX _))
 
-  proper-loadAsDirectory : (w : Place) → Proper L (loadAsDirectory G w)
-  unfolding loadAsDirectory
-  proper-loadAsDirectory w =
+  proper-LOAD-AS-DIRECTORY : (w : Place) → Proper L (LOAD-AS-DIRECTORY G w)
+  unfolding LOAD-AS-DIRECTORY
+  proper-LOAD-AS-DIRECTORY w =
       proper-bind (proper-own _) (λ o.
-      proper-seq (proper-perhaps o (λ m. proper-forEach (G .mainFields) (λ f. proper-perhaps (m .main f) (proper-loadMain w)))) (proper-loadIndex w))
+      proper-seq (proper-perhaps o (λ m. proper-forEach (G .mainFields) (λ f. proper-perhaps (m .main f) (proper-loadMain w)))) (proper-LOAD-INDEX w))
 
-  proper-resolveEsmMatch : (spec : Text) (w : Place) → Proper L (resolveEsmMatch G spec w)
-  unfolding resolveEsmMatch notFound
-  proper-resolveEsmMatch spec w =
-      proper-seq (proper-loadAsFile w) (proper-bind (proper-isDir _) (λ b. proper-seq (proper-when b (proper-loadAsDirectory w)) proper-stop))
+  proper-RESOLVE-ESM-MATCH : (spec : Text) (w : Place) → Proper L (RESOLVE-ESM-MATCH G spec w)
+  unfolding RESOLVE-ESM-MATCH notFound
+  proper-RESOLVE-ESM-MATCH spec w =
+      proper-seq (proper-LOAD-AS-FILE w) (proper-bind (proper-isDir _) (λ b. proper-seq (proper-when b (proper-LOAD-AS-DIRECTORY w)) proper-stop))
 
   proper-byExports : (spec dir sub : Text) (m : Manifest) → Proper L (byExports G spec dir sub m)
   unfolding byExports
-  proper-byExports spec dir sub m = proper-perhaps (m .exports) (λ r. proper-bind (proper-given _) (λ w. proper-never (proper-resolveEsmMatch spec w)))
+  proper-byExports spec dir sub m = proper-perhaps (m .exports) (λ r. proper-bind (proper-given _) (λ w. proper-never (proper-RESOLVE-ESM-MATCH spec w)))
 
-  proper-loadPackageExports : (spec sub dir : Text) → Proper L (loadPackageExports G spec sub dir)
-  unfolding loadPackageExports
-  proper-loadPackageExports spec sub dir = proper-bind (proper-own dir) (λ o. proper-perhaps o (proper-byExports spec dir sub))
+  proper-LOAD-PACKAGE-EXPORTS : (spec sub dir : Text) → Proper L (LOAD-PACKAGE-EXPORTS G spec sub dir)
+  unfolding LOAD-PACKAGE-EXPORTS
+  proper-LOAD-PACKAGE-EXPORTS spec sub dir = proper-bind (proper-own dir) (λ o. proper-perhaps o (proper-byExports spec dir sub))
 
-  proper-loadPackageSelf : (start spec : Text) → Proper L (loadPackageSelf G start spec)
-  unfolding loadPackageSelf inScope
-  proper-loadPackageSelf start spec =
+  proper-LOAD-PACKAGE-SELF : (start spec : Text) → Proper L (LOAD-PACKAGE-SELF G start spec)
+  unfolding LOAD-PACKAGE-SELF inScope
+  proper-LOAD-PACKAGE-SELF start spec =
       proper-bind (proper-nearest _) (λ s. proper-perhaps s (λ s. proper-perhaps _ (λ n. proper-perhaps _ (λ sub. proper-byExports spec _ sub _))))
 
   proper-inScopeDir : (q : Text) (b : Bool) → Proper L (inScopeDir G q b)
@@ -198,20 +198,20 @@ module _ (L : Listing Sees) (G : Settings) where
 
   proper-goOn : (spec name sub q : Text) (b : Bool) → Proper L (goOn G spec name sub q b)
   unfolding goOn
-  proper-goOn spec name sub q true = proper-seq (proper-loadPackageExports spec sub q) proper-ret
+  proper-goOn spec name sub q true = proper-seq (proper-LOAD-PACKAGE-EXPORTS spec sub q) proper-ret
   proper-goOn spec name [] q false = proper-inScopeDir q _
   proper-goOn spec name (x ∷ xs) q false = proper-ret
 
   proper-asDirectory : (w : Place) (b : Bool) → Proper L (asDirectory G w b)
   unfolding asDirectory
-  proper-asDirectory w true = proper-loadAsDirectory w
-  proper-asDirectory w false = proper-loadAsFile w
+  proper-asDirectory w true = proper-LOAD-AS-DIRECTORY w
+  proper-asDirectory w false = proper-LOAD-AS-FILE w
 
   proper-asFileOrDirectory : (spec name nm : Text) → Proper L (asFileOrDirectory G spec name nm)
   unfolding asFileOrDirectory
   proper-asFileOrDirectory spec name nm =
       proper-bind (proper-under nm spec) (λ q.
-      proper-seq (proper-unless _ (proper-unless _ (proper-loadAsFile _))) (proper-bind (proper-isDir q) (λ b. proper-asDirectory _ b)))
+      proper-seq (proper-unless _ (proper-unless _ (proper-LOAD-AS-FILE _))) (proper-bind (proper-isDir q) (λ b. proper-asDirectory _ b)))
 
   proper-inModules : (spec name sub nm : Text) → Proper L (inModules G spec name sub nm)
   unfolding inModules
@@ -223,14 +223,14 @@ module _ (L : Listing Sees) (G : Settings) where
   proper-inDirectory spec name sub d =
       proper-bind (proper-isDir d) (λ b. proper-when b (proper-bind (proper-under d _) (λ nm. proper-bind (proper-isDir nm) (λ c. proper-when c (proper-inModules spec name sub nm)))))
 
-  proper-loadNodeModules : (start spec : Text) → Proper L (loadNodeModules G start spec)
-  unfolding loadNodeModules
-  proper-loadNodeModules start spec = proper-forEach (dirs start) (proper-inDirectory spec _ _)
+  proper-LOAD-NODE-MODULES : (start spec : Text) → Proper L (LOAD-NODE-MODULES G start spec)
+  unfolding LOAD-NODE-MODULES
+  proper-LOAD-NODE-MODULES start spec = proper-forEach (dirs start) (proper-inDirectory spec _ _)
 
   proper-lookup : (start spec : Text) → Proper L (lookup G start spec)
   unfolding lookup notFound
   proper-lookup start spec =
-      proper-seq (proper-loadPackageSelf start spec) (proper-seq (proper-loadNodeModules start spec) (proper-seq (proper-perhaps (climbing spec) (proper-loadNodeModules start)) proper-stop))
+      proper-seq (proper-LOAD-PACKAGE-SELF start spec) (proper-seq (proper-LOAD-NODE-MODULES start spec) (proper-seq (proper-perhaps (climbing spec) (proper-LOAD-NODE-MODULES start)) proper-stop))
 
 ended : (s : Step End ⊥) (w : Place) → ending s ≡ found w → s ≡ stop (found w)
 unfolding ending

@@ -16,7 +16,8 @@ use Rattle.definition.specs.Specifier.{climbing}
 use Rattle.definition.specs.Settings.{Settings}
 use Rattle.definition.specs.Manifest.{End, Place, Manifest}
 use Rattle.definition.specs.Json.{Fault, malformed, beyond, twice}
-use Rattle.definition.specs.Walk.{Look, Scope, when, unless, perhaps, forEach, given, isDir, isFile, made, at, bare, notFound, sound, mainPath, under, orAbove, nearest, ifOwn, own, inScopeDir, tryFile, tryExtension, tryIndex, loadAsFile, loadIndex, loadMain, loadAsDirectory, resolveEsmMatch, byExports, loadPackageExports, inScope, loadPackageSelf, goOn, asDirectory, asFileOrDirectory, inModules, inDirectory, loadNodeModules, lookup}
+use Rattle.definition.specs.Walk.{Look, Scope, when, unless, perhaps, forEach, given, isDir, isFile, made, at, bare, notFound, sound, mainPath, under, orAbove, nearest, ifOwn, own, inScopeDir, tryFile, tryExtension, tryIndex, LOAD-AS-FILE, LOAD-INDEX, loadMain, LOAD-AS-DIRECTORY, RESOLVE-ESM-MATCH, byExports, LOAD-PACKAGE-EXPORTS, inScope, LOAD-PACKAGE-SELF, goOn, asDirectory, asFileOrDirectory, inModules, inDirectory, LOAD-NODE-MODULES, lookup}
+use Rattle.definition.specs.Called.{W}
 use Rattle.definition.specs.BoundLaws.{AtMost, most-ret, most-end, most-up, most-bind, most-seq, most-ask, most-read, most-when, most-unless, most-perhaps, most-forEach, most-given, most-isDir, most-isFile, dir-of, Onward, onward, onward-bind, onward-up, onward-perhaps, onward-never, most-never, most-or}
 
 -- 01's letters: e extensions, f main files, m main fields
@@ -28,10 +29,6 @@ f G = length (G .mainFiles)
 
 abbrev m : Settings → ℕ
 m G = length (G .mainFields)
-
--- the most consults in one directory of the climb, where no directory is deeper than h
-unfoldable pub W : Settings → ℕ → ℕ
-W G h = 6 + 2 * h + 2 * e G + f G * e G + m G * (1 + e G + f G * e G)
 
 module _ (L : Listing (Step Fault Manifest)) where
   most-made : (b : Built) → AtMost L 0 (made b)
@@ -74,58 +71,58 @@ module _ (L : Listing (Step Fault Manifest)) (G : Settings) where
   unfolding tryExtension
   most-tryExtension w x = most-bind (most-made L _) (λ q e. most-tryFile _)
 
-  most-loadAsFile : (w : Place) → AtMost L (1 + e G) (loadAsFile G w)
-  unfolding loadAsFile
-  most-loadAsFile w = most-up (most-seq (most-tryFile w) (most-forEach (G .extensions) (most-tryExtension w))) (omega arith)
+  most-LOAD-AS-FILE : (w : Place) → AtMost L (1 + e G) (LOAD-AS-FILE G w)
+  unfolding LOAD-AS-FILE
+  most-LOAD-AS-FILE w = most-up (most-seq (most-tryFile w) (most-forEach (G .extensions) (most-tryExtension w))) (omega arith)
 
   most-tryIndex : (w : Place) (g x : Text) → AtMost L 1 (tryIndex G w g x)
   unfolding tryIndex
   most-tryIndex w g x = most-bind (most-made L _) (λ q e. most-tryFile _)
 
-  most-loadIndex : (w : Place) → AtMost L (f G * e G) (loadIndex G w)
-  unfolding loadIndex
-  most-loadIndex w = most-forEach (G .mainFiles) (λ x. most-up (most-forEach (G .extensions) (most-tryIndex w x)) (omega arith))
+  most-LOAD-INDEX : (w : Place) → AtMost L (f G * e G) (LOAD-INDEX G w)
+  unfolding LOAD-INDEX
+  most-LOAD-INDEX w = most-forEach (G .mainFiles) (λ x. most-up (most-forEach (G .extensions) (most-tryIndex w x)) (omega arith))
 
   most-loadMain : (w : Place) (x : Text) → AtMost L (1 + e G + f G * e G) (loadMain G w x)
   unfolding loadMain
-  most-loadMain w x = most-up (most-bind (most-under _ _) (λ q h. most-seq (most-loadAsFile _) (most-loadIndex _))) (omega arith)
+  most-loadMain w x = most-up (most-bind (most-under _ _) (λ q h. most-seq (most-LOAD-AS-FILE _) (most-LOAD-INDEX _))) (omega arith)
 
   module _ (h : ℕ) (tall : (p : Text) → stateOf (L p) ≡ directory → length (dirs p) ≤ h) where
-    most-loadAsDirectory : (w : Place) → stateOf (L (w .path)) ≡ directory → AtMost L (h + m G * (1 + e G + f G * e G) + f G * e G) (loadAsDirectory G w)
-    unfolding loadAsDirectory
-    most-loadAsDirectory w d =
+    most-LOAD-AS-DIRECTORY : (w : Place) → stateOf (L (w .path)) ≡ directory → AtMost L (h + m G * (1 + e G + f G * e G) + f G * e G) (LOAD-AS-DIRECTORY G w)
+    unfolding LOAD-AS-DIRECTORY
+    most-LOAD-AS-DIRECTORY w d =
         most-up
         (most-bind (most-own (w .path)) (λ o _.
         most-seq
         (most-perhaps o (λ v. most-forEach (G .mainFields) (λ x. most-perhaps (v .main x) (most-loadMain w))))
-        (most-loadIndex w)))
+        (most-LOAD-INDEX w)))
         (omega (arith, tall _ d))
 
-    most-resolveEsmMatch : (spec : Text) (w : Place) → AtMost L (2 + h + e G + f G * e G + m G * (1 + e G + f G * e G)) (resolveEsmMatch G spec w)
-    unfolding resolveEsmMatch
-    most-resolveEsmMatch spec w =
+    most-RESOLVE-ESM-MATCH : (spec : Text) (w : Place) → AtMost L (2 + h + e G + f G * e G + m G * (1 + e G + f G * e G)) (RESOLVE-ESM-MATCH G spec w)
+    unfolding RESOLVE-ESM-MATCH
+    most-RESOLVE-ESM-MATCH spec w =
         most-up
-        (most-seq (most-loadAsFile w)
+        (most-seq (most-LOAD-AS-FILE w)
         (most-bind (most-isDir (w .path)) (λ b a.
-        most-seq (most-when b (λ t. most-loadAsDirectory w (dir-of L _ b a t))) (most-end {n = 0}))))
+        most-seq (most-when b (λ t. most-LOAD-AS-DIRECTORY w (dir-of L _ b a t))) (most-end {n = 0}))))
         (omega arith)
 
     most-byExports : (spec dir sub : Text) (v : Manifest) → AtMost L (2 + h + e G + f G * e G + m G * (1 + e G + f G * e G)) (byExports G spec dir sub v)
     unfolding byExports
-    most-byExports spec dir sub v = most-perhaps (v .exports) (λ r. most-up (most-bind (most-given {n = 0} _) (λ w _. most-never (most-resolveEsmMatch spec w))) (omega arith))
+    most-byExports spec dir sub v = most-perhaps (v .exports) (λ r. most-up (most-bind (most-given {n = 0} _) (λ w _. most-never (most-RESOLVE-ESM-MATCH spec w))) (omega arith))
 
     -- what exports give ends the lookup
     onward-byExports : (spec dir sub : Text) (v : Manifest) → Onward L 0 (byExports G spec dir sub v)
     unfolding byExports
-    onward-byExports spec dir sub v = onward-perhaps (v .exports) (λ r. onward-bind (onward (most-given {n = 0} _)) (λ w _. onward-never (resolveEsmMatch G spec w)))
+    onward-byExports spec dir sub v = onward-perhaps (v .exports) (λ r. onward-bind (onward (most-given {n = 0} _)) (λ w _. onward-never (RESOLVE-ESM-MATCH G spec w)))
 
-    most-loadPackageExports : (spec sub dir : Text) → stateOf (L dir) ≡ directory → AtMost L (2 + 2 * h + e G + f G * e G + m G * (1 + e G + f G * e G)) (loadPackageExports G spec sub dir)
-    unfolding loadPackageExports
-    most-loadPackageExports spec sub dir d = most-up (most-bind (most-own dir) (λ o _. most-perhaps o (most-byExports spec dir sub))) (omega (arith, tall dir d))
+    most-LOAD-PACKAGE-EXPORTS : (spec sub dir : Text) → stateOf (L dir) ≡ directory → AtMost L (2 + 2 * h + e G + f G * e G + m G * (1 + e G + f G * e G)) (LOAD-PACKAGE-EXPORTS G spec sub dir)
+    unfolding LOAD-PACKAGE-EXPORTS
+    most-LOAD-PACKAGE-EXPORTS spec sub dir d = most-up (most-bind (most-own dir) (λ o _. most-perhaps o (most-byExports spec dir sub))) (omega (arith, tall dir d))
 
-    onward-loadPackageExports : (spec sub dir : Text) → stateOf (L dir) ≡ directory → Onward L h (loadPackageExports G spec sub dir)
-    unfolding loadPackageExports
-    onward-loadPackageExports spec sub dir d = onward-up (onward-bind (onward (most-own dir)) (λ o _. onward-perhaps o (onward-byExports spec dir sub))) (omega (arith, tall dir d))
+    onward-LOAD-PACKAGE-EXPORTS : (spec sub dir : Text) → stateOf (L dir) ≡ directory → Onward L h (LOAD-PACKAGE-EXPORTS G spec sub dir)
+    unfolding LOAD-PACKAGE-EXPORTS
+    onward-LOAD-PACKAGE-EXPORTS spec sub dir d = onward-up (onward-bind (onward (most-own dir)) (λ o _. onward-perhaps o (onward-byExports spec dir sub))) (omega (arith, tall dir d))
 
     module _ (positive : 1 ≤ h) where
       most-inScopeDir : (q : Text) (b : Bool) → AtMost L 1 (inScopeDir G q b)
@@ -135,27 +132,27 @@ module _ (L : Listing (Step Fault Manifest)) (G : Settings) where
 
       most-goOn : (spec name sub q : Text) (b : Bool) → (b ≡ true → stateOf (L q) ≡ directory) → AtMost L (2 + 2 * h + e G + f G * e G + m G * (1 + e G + f G * e G)) (goOn G spec name sub q b)
       unfolding goOn
-      most-goOn spec name sub q true d = most-up (most-seq (most-loadPackageExports spec sub q (d refl)) (most-ret {n = 0})) (omega arith)
+      most-goOn spec name sub q true d = most-up (most-seq (most-LOAD-PACKAGE-EXPORTS spec sub q (d refl)) (most-ret {n = 0})) (omega arith)
       most-goOn spec name [] q false d = most-up (most-inScopeDir q _) (omega arith)
       most-goOn spec name (x ∷ xs) q false d = most-ret
 
       onward-goOn : (spec name sub q : Text) (b : Bool) → (b ≡ true → stateOf (L q) ≡ directory) → Onward L h (goOn G spec name sub q b)
       unfolding goOn _>>_
-      onward-goOn spec name sub q true d = onward-up (onward-bind (onward-loadPackageExports spec sub q (d refl)) (λ _ _. onward (most-ret {n = 0}))) (omega arith)
+      onward-goOn spec name sub q true d = onward-up (onward-bind (onward-LOAD-PACKAGE-EXPORTS spec sub q (d refl)) (λ _ _. onward (most-ret {n = 0}))) (omega arith)
       onward-goOn spec name [] q false d = onward (most-up (most-inScopeDir q _) positive)
       onward-goOn spec name (x ∷ xs) q false d = onward most-ret
 
       most-asDirectory : (w : Place) (b : Bool) → (b ≡ true → stateOf (L (w .path)) ≡ directory) → AtMost L (h + e G + f G * e G + m G * (1 + e G + f G * e G)) (asDirectory G w b)
       unfolding asDirectory
-      most-asDirectory w true d = most-up (most-loadAsDirectory w (d refl)) (omega arith)
-      most-asDirectory w false d = most-up (most-loadAsFile w) (omega arith)
+      most-asDirectory w true d = most-up (most-LOAD-AS-DIRECTORY w (d refl)) (omega arith)
+      most-asDirectory w false d = most-up (most-LOAD-AS-FILE w) (omega arith)
 
       most-asFileOrDirectory : (spec name nm : Text) → AtMost L (2 + h + 2 * e G + f G * e G + m G * (1 + e G + f G * e G)) (asFileOrDirectory G spec name nm)
       unfolding asFileOrDirectory bare
       most-asFileOrDirectory spec name nm =
           most-up
           (most-bind (most-under nm spec) (λ q _.
-          most-seq (most-unless (equal spec name) (most-unless (endsWith (text "/") spec) (most-loadAsFile _)))
+          most-seq (most-unless (equal spec name) (most-unless (endsWith (text "/") spec) (most-LOAD-AS-FILE _)))
           (most-bind (most-isDir q) (λ b a.
           most-asDirectory (bare q) b (dir-of L q b a)))))
           (omega arith)
@@ -181,21 +178,21 @@ module _ (L : Listing (Step Fault Manifest)) (G : Settings) where
           most-when c (λ _. most-inModules spec name sub nm))))))
           (omega arith)
 
-      most-loadNodeModules : (start spec : Text) → AtMost L (length (dirs start) * W G h) (loadNodeModules G start spec)
-      unfolding loadNodeModules
-      most-loadNodeModules start spec = most-forEach (dirs start) (most-inDirectory spec _ _)
+      most-LOAD-NODE-MODULES : (start spec : Text) → AtMost L (length (dirs start) * W G h) (LOAD-NODE-MODULES G start spec)
+      unfolding LOAD-NODE-MODULES
+      most-LOAD-NODE-MODULES start spec = most-forEach (dirs start) (most-inDirectory spec _ _)
 
-      most-loadPackageSelf : (start spec : Text) → AtMost L (length (dirs start) + W G h) (loadPackageSelf G start spec)
-      unfolding loadPackageSelf inScope W
-      most-loadPackageSelf start spec =
+      most-LOAD-PACKAGE-SELF : (start spec : Text) → AtMost L (length (dirs start) + W G h) (LOAD-PACKAGE-SELF G start spec)
+      unfolding LOAD-PACKAGE-SELF inScope W
+      most-LOAD-PACKAGE-SELF start spec =
           most-up
           (most-bind (most-nearest (dirs start)) (λ s _.
           most-perhaps s (λ v. most-perhaps _ (λ n. most-perhaps _ (λ sub. most-byExports spec _ sub _)))))
           (omega arith)
 
-      onward-loadPackageSelf : (start spec : Text) → Onward L (length (dirs start)) (loadPackageSelf G start spec)
-      unfolding loadPackageSelf inScope
-      onward-loadPackageSelf start spec =
+      onward-LOAD-PACKAGE-SELF : (start spec : Text) → Onward L (length (dirs start)) (LOAD-PACKAGE-SELF G start spec)
+      unfolding LOAD-PACKAGE-SELF inScope
+      onward-LOAD-PACKAGE-SELF start spec =
           onward-up
           (onward-bind (onward (most-nearest (dirs start))) (λ s _.
           onward-perhaps s (λ v. onward-perhaps _ (λ n. onward-perhaps _ (λ sub. onward-byExports spec _ sub _)))))
@@ -205,9 +202,9 @@ module _ (L : Listing (Step Fault Manifest)) (G : Settings) where
       pub most-lookup : (start spec : Text) → 1 ≤ length (dirs start) → AtMost L (length (dirs start) + 2 * (length (dirs start) * W G h)) (lookup G start spec)
       unfolding lookup _>>_
       most-lookup start spec d =
-          most-or (most-up (most-loadPackageSelf start spec) (omega (arith, mul-le-mul-right (W G h) d))) (onward-loadPackageSelf start spec) (λ _ _.
-          most-seq (most-loadNodeModules start spec)
-          (most-seq (most-perhaps (climbing spec) (most-loadNodeModules start)) (most-end {n = 0})))
+          most-or (most-up (most-LOAD-PACKAGE-SELF start spec) (omega (arith, mul-le-mul-right (W G h) d))) (onward-LOAD-PACKAGE-SELF start spec) (λ _ _.
+          most-seq (most-LOAD-NODE-MODULES start spec)
+          (most-seq (most-perhaps (climbing spec) (most-LOAD-NODE-MODULES start)) (most-end {n = 0})))
           (omega arith)
 
 -- at 01's limits the formula is 18,777

@@ -26,6 +26,7 @@ pub mod ChosenKeyLaws
 pub mod ExportsOrderLaws
 pub mod Local
 pub mod JsonLocal
+pub mod JsonStringLaws
 pub mod Layout
 pub mod Laid
 pub mod SameMapLaws

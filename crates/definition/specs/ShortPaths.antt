@@ -20,7 +20,7 @@ use Rattle.definition.specs.Listing.{Entry, noEntry, directoryEntry, fil
 use Rattle.definition.specs.Ask.{State, absent, directory, file, Listing, Consult, Step, go, stop, Ask, ret, end, ask, read, stateOf, contentsOf, asked, opened, answer, log, _>>=_, _>>_, seen, viewed}
 use Rattle.definition.specs.Settings.{Settings, settingsOf, passes24}
 use Rattle.definition.specs.Manifest.{Stop, End, found, stopped, Place, Manifest, fresh, resolvedTo, resolveExports, firstField, exportsOf, manifestView, viewOf, view}
-use Rattle.definition.specs.Walk.{Look, Scope, never, when, unless, perhaps, forEach, given, isDir, isDirState, isFile, made, at, bare, notFound, sound, mainPath, under, orAbove, nearest, ifOwn, own, inScopeDir, tryFile, tryExtension, tryIndex, loadAsFile, loadIndex, loadMain, loadAsDirectory, resolveEsmMatch, byExports, loadPackageExports, inScope, loadPackageSelf, goOn, asDirectory, asFileOrDirectory, inModules, inDirectory, loadNodeModules, lookup}
+use Rattle.definition.specs.Walk.{Look, Scope, never, when, unless, perhaps, forEach, given, isDir, isDirState, isFile, made, at, bare, notFound, sound, mainPath, under, orAbove, nearest, ifOwn, own, inScopeDir, tryFile, tryExtension, tryIndex, LOAD-AS-FILE, LOAD-INDEX, loadMain, LOAD-AS-DIRECTORY, RESOLVE-ESM-MATCH, byExports, LOAD-PACKAGE-EXPORTS, inScope, LOAD-PACKAGE-SELF, goOn, asDirectory, asFileOrDirectory, inModules, inDirectory, LOAD-NODE-MODULES, lookup}
 use Rattle.definition.specs.BoundLaws.{dir-of}
 use Rattle.definition.specs.DepthLaws.{folder-of, folder-at}
 use Rattle.definition.specs.Called.{Question, seenBy, endOf, listOf, joined, paths}
@@ -228,43 +228,43 @@ module _ (L : Listing Sees) (G : Settings) (sees : (p : Text) (m : Manifest) →
   unfolding tryIndex at
   short-tryIndex w f x = short-bind (short-made _) (λ q e. short-tryFile _ (made-fits L (addNameAndExtension (w .path) f x) (addNameAndExtension-fits (w .path) f x) q e))
 
-  short-loadAsFile : (w : Place) → Fit (w .path) → Short L (loadAsFile G w)
-  unfolding loadAsFile
-  short-loadAsFile w f = short-seq (short-tryFile w f) (short-forEach (G .extensions) (short-tryExtension w))
+  short-LOAD-AS-FILE : (w : Place) → Fit (w .path) → Short L (LOAD-AS-FILE G w)
+  unfolding LOAD-AS-FILE
+  short-LOAD-AS-FILE w f = short-seq (short-tryFile w f) (short-forEach (G .extensions) (short-tryExtension w))
 
-  short-loadIndex : (w : Place) → Short L (loadIndex G w)
-  unfolding loadIndex
-  short-loadIndex w = short-forEach (G .mainFiles) (λ f. short-forEach (G .extensions) (short-tryIndex w f))
+  short-LOAD-INDEX : (w : Place) → Short L (LOAD-INDEX G w)
+  unfolding LOAD-INDEX
+  short-LOAD-INDEX w = short-forEach (G .mainFiles) (λ f. short-forEach (G .extensions) (short-tryIndex w f))
 
   short-loadMain : (w : Place) (x : Text) → Fit (w .path) → Short L (loadMain G w x)
   unfolding loadMain at
-  short-loadMain w x f = short-bind (short-under _ _) (λ q e. short-seq (short-loadAsFile _ (under-fits (w .path) (mainPath x) f q e)) (short-loadIndex _))
+  short-loadMain w x f = short-bind (short-under _ _) (λ q e. short-seq (short-LOAD-AS-FILE _ (under-fits (w .path) (mainPath x) f q e)) (short-LOAD-INDEX _))
 
-  short-loadAsDirectory : (w : Place) → stateOf (L (w .path)) ≡ directory → Short L (loadAsDirectory G w)
-  unfolding loadAsDirectory
-  short-loadAsDirectory w d =
+  short-LOAD-AS-DIRECTORY : (w : Place) → stateOf (L (w .path)) ≡ directory → Short L (LOAD-AS-DIRECTORY G w)
+  unfolding LOAD-AS-DIRECTORY
+  short-LOAD-AS-DIRECTORY w d =
       let n : length (w .path) ≤ 1024 = low (w .path) d in
       let f : Fit (w .path) = omega arith in
       short-bind (short-own (w .path) n) (λ o e.
-      short-seq (short-perhaps o (λ m x. short-forEach (G .mainFields) (λ k. short-perhaps (m .main k) (λ t y. short-loadMain w t f)))) (short-loadIndex w))
+      short-seq (short-perhaps o (λ m x. short-forEach (G .mainFields) (λ k. short-perhaps (m .main k) (λ t y. short-loadMain w t f)))) (short-LOAD-INDEX w))
 
-  short-resolveEsmMatch : (spec : Text) (w : Place) → Fit (w .path) → Short L (resolveEsmMatch G spec w)
-  unfolding resolveEsmMatch
-  short-resolveEsmMatch spec w f =
-      short-seq (short-loadAsFile w f) (short-bind (short-isDir _ f) (λ b e. short-seq (short-when b (λ t. short-loadAsDirectory w (dir-of L _ b e t))) short-end))
+  short-RESOLVE-ESM-MATCH : (spec : Text) (w : Place) → Fit (w .path) → Short L (RESOLVE-ESM-MATCH G spec w)
+  unfolding RESOLVE-ESM-MATCH
+  short-RESOLVE-ESM-MATCH spec w f =
+      short-seq (short-LOAD-AS-FILE w f) (short-bind (short-isDir _ f) (λ b e. short-seq (short-when b (λ t. short-LOAD-AS-DIRECTORY w (dir-of L _ b e t))) short-end))
 
   short-byExports : (spec dir sub : Text) (m : Manifest) → Fair m → length dir ≤ 1024 → Short L (byExports G spec dir sub m)
   unfolding byExports
   short-byExports spec dir sub m g h =
-      short-perhaps (m .exports) (λ r x. short-bind (short-given _) (λ w e. short-never (short-resolveEsmMatch spec w (g .gives r x dir (dotSubpath sub) (omega arith) w (given-go L _ w e)))))
+      short-perhaps (m .exports) (λ r x. short-bind (short-given _) (λ w e. short-never (short-RESOLVE-ESM-MATCH spec w (g .gives r x dir (dotSubpath sub) (omega arith) w (given-go L _ w e)))))
 
-  short-loadPackageExports : (spec sub dir : Text) → length dir ≤ 1024 → Short L (loadPackageExports G spec sub dir)
-  unfolding loadPackageExports
-  short-loadPackageExports spec sub dir h = short-bind (short-own dir h) (λ o e. short-perhaps o (λ m x. short-byExports spec dir sub m (fair-own dir h o e m x) h))
+  short-LOAD-PACKAGE-EXPORTS : (spec sub dir : Text) → length dir ≤ 1024 → Short L (LOAD-PACKAGE-EXPORTS G spec sub dir)
+  unfolding LOAD-PACKAGE-EXPORTS
+  short-LOAD-PACKAGE-EXPORTS spec sub dir h = short-bind (short-own dir h) (λ o e. short-perhaps o (λ m x. short-byExports spec dir sub m (fair-own dir h o e m x) h))
 
-  short-loadPackageSelf : (start spec : Text) → length start ≤ 1024 → Short L (loadPackageSelf G start spec)
-  unfolding loadPackageSelf inScope
-  short-loadPackageSelf start spec h =
+  short-LOAD-PACKAGE-SELF : (start spec : Text) → length start ≤ 1024 → Short L (LOAD-PACKAGE-SELF G start spec)
+  unfolding LOAD-PACKAGE-SELF inScope
+  short-LOAD-PACKAGE-SELF start spec h =
       short-bind (short-nearest (dirs start) (dirs-low start h)) (λ o e.
       short-perhaps o (λ s x.
       let g = good-nearest (dirs start) (dirs-low start h) o e .scope s x in
@@ -277,21 +277,21 @@ module _ (L : Listing Sees) (G : Settings) (sees : (p : Text) (m : Manifest) →
 
   short-goOn : (spec name sub q : Text) (b : Bool) → Fit q → (b ≡ true → stateOf (L q) ≡ directory) → Short L (goOn G spec name sub q b)
   unfolding goOn
-  short-goOn spec name sub q true f d = short-seq (short-loadPackageExports spec sub q (low q (d refl))) short-ret
+  short-goOn spec name sub q true f d = short-seq (short-LOAD-PACKAGE-EXPORTS spec sub q (low q (d refl))) short-ret
   short-goOn spec name [] q false f d = short-inScopeDir q _ f
   short-goOn spec name (x ∷ xs) q false f d = short-ret
 
   short-asDirectory : (w : Place) (b : Bool) → Fit (w .path) → (b ≡ true → stateOf (L (w .path)) ≡ directory) → Short L (asDirectory G w b)
   unfolding asDirectory
-  short-asDirectory w true f d = short-loadAsDirectory w (d refl)
-  short-asDirectory w false f d = short-loadAsFile w f
+  short-asDirectory w true f d = short-LOAD-AS-DIRECTORY w (d refl)
+  short-asDirectory w false f d = short-LOAD-AS-FILE w f
 
   short-asFileOrDirectory : (spec name nm : Text) → Fit nm → Short L (asFileOrDirectory G spec name nm)
   unfolding asFileOrDirectory bare
   short-asFileOrDirectory spec name nm f =
       short-bind (short-under nm spec) (λ q e.
       let g : Fit q = under-fits nm spec f q e in
-      short-seq (short-unless _ (short-unless _ (short-loadAsFile _ g))) (short-bind (short-isDir q g) (λ b a. short-asDirectory _ b g (dir-of L q b a))))
+      short-seq (short-unless _ (short-unless _ (short-LOAD-AS-FILE _ g))) (short-bind (short-isDir q g) (λ b a. short-asDirectory _ b g (dir-of L q b a))))
 
   short-inModules : (spec name sub nm : Text) → Fit nm → Short L (inModules G spec name sub nm)
   unfolding inModules
@@ -311,14 +311,14 @@ module _ (L : Listing Sees) (G : Settings) (sees : (p : Text) (m : Manifest) →
       let g : Fit nm = under-fits d (text "node_modules") f nm e in
       short-bind (short-isDir nm g) (λ c _. short-when c (λ _. short-inModules spec name sub nm g)))))
 
-  short-loadNodeModules : (start spec : Text) → length start ≤ 1024 → Short L (loadNodeModules G start spec)
-  unfolding loadNodeModules
-  short-loadNodeModules start spec h = short-paths 1024 (dirs start) (dirs-low start h) (short-inDirectory spec _ _)
+  short-LOAD-NODE-MODULES : (start spec : Text) → length start ≤ 1024 → Short L (LOAD-NODE-MODULES G start spec)
+  unfolding LOAD-NODE-MODULES
+  short-LOAD-NODE-MODULES start spec h = short-paths 1024 (dirs start) (dirs-low start h) (short-inDirectory spec _ _)
 
   short-lookup : (start spec : Text) → length start ≤ 1024 → Short L (lookup G start spec)
   unfolding lookup
   short-lookup start spec h =
-      short-seq (short-loadPackageSelf start spec h) (short-seq (short-loadNodeModules start spec h) (short-seq (short-perhaps (climbing spec) (λ s e. short-loadNodeModules start s h)) short-end))
+      short-seq (short-LOAD-PACKAGE-SELF start spec h) (short-seq (short-LOAD-NODE-MODULES start spec h) (short-seq (short-perhaps (climbing spec) (λ s e. short-LOAD-NODE-MODULES start s h)) short-end))
 
 -- what a view gives fits
 no-step : {A B X : Type 0} {a : A} {b : B} → _≡_ {A = Step A B} (stop a) (go b) → X

@@ -1,15 +1,16 @@
 -- The tests of `Text` at a place of a slice: what a loop over the bytes uses. Assumes nothing.
 use mathlib.Core.Path.{_≡_, refl, sym, _∙_, ap}
-use Prim.Native.Nat.{ℕ, zero, suc, _+_, _-_, _≤_, _<_}
+use Prim.Native.Nat.{ℕ, zero, suc, _+_, _-_, _≤_, _<_, min}
 use mathlib.Core.Bool.{Bool, true, false, _&&_, _||_, and-false, or-true}
-use mathlib.Core.List.{List, [], _∷_, _++_}
+use mathlib.Core.List.{List, [], _∷_, _++_, append-nil}
 use native.Mathlib.Omega.{arith}
 use native.Mathlib.Numerals.{add-one}
-use borrow.Author.Tests.{eqb-true, eq-eqb, ne-eqb, lt-ltb, le-ltb, le-leb, lt-leb}
+use borrow.Author.Tests.{leb-true, leb-false, eqb-true, eq-eqb, ne-eqb, lt-ltb, le-ltb, le-leb, lt-leb}
 use lib.Dec.{eqb, leb, ltb}
-use lib.ListN.{length, drop, take, getD, drop-of-length-le, length-drop}
-use lib.Seq.{drop-cons, getD-drop, drop-drop, take-suc}
-use Rattle.definition.specs.Text.{if_then_else_, equal, smaller, count, contains, before, beforeLast, within, Due, due, bad, dueAfter, isUtf8From}
+use native.Mathlib.Nat.{add-zero}
+use lib.ListN.{length, drop, take, getD, set, replicate, drop-of-length-le, length-drop, length-set, length-map, take-append-drop}
+use lib.Seq.{drop-cons, take-suc, take-all, take-nil, take-suc-set, drop-set-lt, append-snoc}
+use Rattle.definition.specs.Text.{if_then_else_, equal, equalIgnoringCase, lowerCase, startsWith, smaller, count, contains, containsText, before, beforeLast, within, Due, due, bad, dueAfter, isUtf8From, isUtf8, overwrite, zeroFrom}
 
 pub equal-lengths : (a b : List ℕ) → (length a ≡ length b → ⊥) → equal a b ≡ false
 unfolding equal
@@ -60,6 +61,24 @@ module _ (a b : List ℕ) (i : ℕ) where
     smaller-next e =
         let p : getD b i 0 ≤ getD a i 0 = omega arith in
         rw (add-one i, drop-cons a i 0 h, drop-cons b i 0 k) (simp (le-ltb _ _ p, eq-eqb _ _ e))
+
+pub ignoring-lengths : (a b : List ℕ) → (length a ≡ length b → ⊥) → equalIgnoringCase a b ≡ false
+unfolding equalIgnoringCase
+ignoring-lengths a b h = equal-lengths _ _ (λ e. h (simp length-map at e))
+
+module _ (a b : List ℕ) (i : ℕ) where
+  pub ignoring-end : length a ≤ i → length b ≤ i → equalIgnoringCase (drop i a) (drop i b) ≡ true
+  unfolding equalIgnoringCase equal
+  ignoring-end h k = rw (drop-of-length-le a h, drop-of-length-le b k)
+
+  module _ (h : i < length a) (k : i < length b) where
+    pub ignoring-here : lowerCase (getD a i 0) ≡ lowerCase (getD b i 0) → equalIgnoringCase (drop i a) (drop i b) ≡ equalIgnoringCase (drop (i + 1) a) (drop (i + 1) b)
+    unfolding equalIgnoringCase equal
+    ignoring-here e = rw (add-one i, drop-cons a i 0 h, drop-cons b i 0 k) (simp (eq-eqb _ _ e))
+
+    pub ignoring-not : (lowerCase (getD a i 0) ≡ lowerCase (getD b i 0) → ⊥) → equalIgnoringCase (drop i a) (drop i b) ≡ false
+    unfolding equalIgnoringCase equal
+    ignoring-not e = rw (drop-cons a i 0 h, drop-cons b i 0 k) (simp (ne-eqb _ _ e))
 
 module _ (c : ℕ) (s : List ℕ) (i : ℕ) where
   pub count-end : length s ≤ i → count c (drop i s) ≡ 0
@@ -177,11 +196,97 @@ before-inside c (b ∷ s) = go (eqb b c) (before-inside c s)
     go true h = omega arith
     go false h = omega arith
 
-pub utf8-step : (s : List ℕ) (i : ℕ) (d e : Due) → i < length s → ((t : List ℕ) → isUtf8From (getD s i 0 ∷ t) d ≡ isUtf8From t e) → isUtf8From (drop i s) d ≡ isUtf8From (drop (i + 1) s) e
-utf8-step s i d e h f = rw (add-one i, drop-cons s i 0 h) (f (drop (suc i) s))
+pub utf8-step : (s : List ℕ) (i : ℕ) (d e f : Due) → i < length s → ((t : List ℕ) → isUtf8From (getD s i 0 ∷ t) d ≡ isUtf8From t e) → e ≡ f → isUtf8From (drop i s) d ≡ isUtf8From (drop (i + 1) s) f
+utf8-step s i d e f h step same = rw (add-one i, drop-cons s i 0 h, ← same) (step (drop (suc i) s))
 
 pub first-inside : (c : ℕ) (s : List ℕ) (at e : ℕ) → e ≡ at + length (before c (drop at s)) → at ≤ length s → e ≤ length s
 first-inside c s at e h k = omega (arith, before-inside c (drop at s), length-drop at s)
 
 pub take-more : (a b : List ℕ) (i : ℕ) → i < length a → i < length b → take i a ≡ take i b → getD a i 0 ≡ getD b i 0 → take (i + 1) a ≡ take (i + 1) b
 take-more a b i h k e f = rw (add-one i, take-suc a i 0 h, take-suc b i 0 k, e, f)
+
+-- a text that starts with another is at least as long, and begins with its bytes
+pub startsWith-short : (p s : List ℕ) → length s < length p → startsWith p s ≡ false
+unfolding startsWith
+startsWith-short [] s h = let z : ⊥ = omega arith in absurd z
+startsWith-short (a ∷ p) [] h = refl
+startsWith-short (a ∷ p) (b ∷ s) h = rw (startsWith-short p s (omega arith)) (and-false (eqb a b))
+
+pub startsWith-equal : (p s : List ℕ) → length p ≤ length s → startsWith p s ≡ equal p (take (length p) s)
+unfolding startsWith equal
+startsWith-equal [] s h = refl
+startsWith-equal (a ∷ p) [] h = let z : ⊥ = omega arith in absurd z
+startsWith-equal (a ∷ p) (b ∷ s) h = rw (startsWith-equal p s (omega arith))
+
+-- the part of a slice from a place to its end
+pub part-rest : {A : Type 0} (s : List A) (at : ℕ) → take (length s - at) (drop at s) ≡ drop at s
+part-rest s at = take-all (length s - at) (drop at s) (omega (arith, length-drop at s))
+
+module _ (t s : List ℕ) (i : ℕ) where
+  pub containsText-here : i < length s → startsWith t (drop i s) ≡ true → containsText t (drop i s) ≡ true
+  unfolding containsText
+  containsText-here h e = rw (drop-cons s i 0 h) (simp (rw (drop-cons s i 0 h) at e))
+
+  pub containsText-not : i < length s → startsWith t (drop i s) ≡ false → containsText t (drop i s) ≡ containsText t (drop (i + 1) s)
+  unfolding containsText
+  containsText-not h e = rw (add-one i, drop-cons s i 0 h) (simp (rw (drop-cons s i 0 h) at e))
+
+  pub containsText-end : length s ≤ i → containsText t (drop i s) ≡ eqb (length t) 0
+  unfolding containsText startsWith
+  containsText-end h = rw (drop-of-length-le s h) (empty t)
+    where
+      empty : (t : List ℕ) → startsWith t [] ≡ eqb (length t) 0
+      empty [] = refl
+      empty (a ∷ t) = sym (ne-eqb (suc (length t)) 0 (λ e. omega arith))
+
+-- bytes below 128 are UTF-8
+pub utf8-ascii : (s : List ℕ) → ((k : ℕ) → k < length s → getD s k 0 < 128) → isUtf8 s ≡ true
+unfolding isUtf8 isUtf8From dueAfter
+utf8-ascii [] h = refl
+utf8-ascii (b ∷ s) h = rw (lt-ltb b 128 (h 0 (omega arith))) (utf8-ascii s (λ k l. h (suc k) (omega arith)))
+
+-- one element written at a place, and the rest from the next place on
+module _ {A : Type 0} where
+  pub overwrite-here : (at : ℕ) (x : A) (t d : List A) → at < length d → overwrite at (x ∷ t) d ≡ overwrite (suc at) t (set d at x)
+  unfolding overwrite
+  overwrite-here at x t d h =
+      let e : length d - at ≡ suc (length d - suc at) = omega arith in
+      let f : at + suc (length t) ≡ suc at + length t = omega arith in
+      let g : at < suc at + length t = omega arith in
+      rw (e, f, take-suc-set d at x h, length-set d at x, drop-set-lt (suc at + length t) d at x g, append-snoc (take at d) x (take (length d - suc at) t))
+
+  pub overwrite-nil : (at : ℕ) (d : List A) → overwrite at [] d ≡ d
+  unfolding overwrite
+  overwrite-nil at d = rw (take-nil (length d - at), append-nil (take at d), add-zero at) (take-append-drop at d)
+
+  pub overwrite-past : (at : ℕ) (t d : List A) → length d ≤ at → overwrite at t d ≡ d
+  unfolding overwrite
+  overwrite-past at t d h =
+      let e : length d - at ≡ 0 = omega arith in
+      let f : length d ≤ at + length t = omega arith in
+      rw (e, take-all at d h, drop-of-length-le d f) (simp append-nil)
+
+  module _ (at : ℕ) (s d : List A) where
+    pub overwrite-step : (i : ℕ) (z : A) → i < length s → at + i < length d → overwrite (at + i) (drop i s) d ≡ overwrite (at + (i + 1)) (drop (i + 1) s) (set d (at + i) (getD s i z))
+    overwrite-step i z h k =
+        let e : at + suc i ≡ suc (at + i) = omega arith in
+        rw (add-one i, e, drop-cons s i z h) (overwrite-here (at + i) (getD s i z) (drop (suc i) s) d k)
+
+    pub overwrite-end : (i : ℕ) → min (length s) (length d - at) ≤ i → overwrite (at + i) (drop i s) d ≡ d
+    overwrite-end i h = go (leb (length s) i) refl
+      where
+        go : (t : Bool) → leb (length s) i ≡ t → overwrite (at + i) (drop i s) d ≡ d
+        go true e = rw (drop-of-length-le s (leb-true _ _ e)) (overwrite-nil (at + i) d)
+        go false e = overwrite-past (at + i) (drop i s) d (let k : i < length s = leb-false _ _ e in omega arith)
+
+pub zeroFrom-here : (at : ℕ) (d : List ℕ) → at < length d → zeroFrom at d ≡ zeroFrom (suc at) (set d at 0)
+unfolding zeroFrom
+zeroFrom-here at d h =
+    let e : length d - at ≡ suc (length d - suc at) = omega arith in
+    rw (e, take-suc-set d at 0 h, length-set d at 0, append-snoc (take at d) 0 (replicate (length d - suc at) 0))
+
+pub zeroFrom-past : (at : ℕ) (d : List ℕ) → length d ≤ at → zeroFrom at d ≡ d
+unfolding zeroFrom
+zeroFrom-past at d h =
+    let e : length d - at ≡ 0 = omega arith in
+    rw (e, take-all at d h) (append-nil d)

@@ -1,9 +1,9 @@
-// Bytes: equality, order, counts, places, UTF-8.
+// Bytes: equality, order, search, counts, copy, zero fill, UTF-8.
 ghost use mathlib.Core.Path.{_≡_};
 ghost use mathlib.Core.List.{List, _∷_};
-ghost use Prim.Native.Nat.{ℕ, _+_, _≤_, _<_};
-ghost use lib.ListN.{length, drop, take};
-ghost use Rattle.definition.specs.Text.{equal, smaller, count, contains, before, beforeLast, due, dueAfter, isUtf8From, isUtf8};
+ghost use Prim.Native.Nat.{ℕ, _+_, _-_, _≤_, _<_, min};
+ghost use lib.ListN.{length, drop, getD};
+ghost use Rattle.definition.specs.Text.{equal, equalIgnoringCase, lowerCase, smaller, startsWith, endsWith, count, contains, containsText, before, beforeLast, overwrite, zeroFrom, due, dueAfter, isUtf8From, isUtf8};
 ghost use Rattle.text.specs.Meaning.{meant};
 
 pub fn equal(a: &[u8], b: &[u8]) -> bool
@@ -20,6 +20,54 @@ pub fn equal(a: &[u8], b: &[u8]) -> bool
         i += 1;
     }
     true
+}
+
+fn lower(b: u8) -> u8
+    ensures { λ r. ⌜ r ≡ lowerCase b ⌝ }
+{
+    if b < 65 {
+        return b;
+    }
+    if b > 90 {
+        return b;
+    }
+    b + 32
+}
+
+pub fn eq_ignore_ascii_case(a: &[u8], b: &[u8]) -> bool
+    ensures { λ r. ⌜ r ≡ equalIgnoringCase (now (a .entry)) (now (b .entry)) ⌝ }
+{
+    if a.len() != b.len() {
+        return false;
+    }
+    let mut i = 0;
+    while i < a.len() {
+        if lower(a[i]) != lower(b[i]) {
+            return false;
+        }
+        i += 1;
+    }
+    true
+}
+
+pub fn starts_with(s: &[u8], prefix: &[u8]) -> bool
+    ensures { λ r. ⌜ r ≡ startsWith (now (prefix .entry)) (now (s .entry)) ⌝ }
+{
+    let n = prefix.len();
+    if s.len() < n {
+        return false;
+    }
+    equal(prefix, &s[0..n])
+}
+
+pub fn ends_with(s: &[u8], suffix: &[u8]) -> bool
+    ensures { λ r. ⌜ r ≡ endsWith (now (suffix .entry)) (now (s .entry)) ⌝ }
+{
+    if s.len() < suffix.len() {
+        return false;
+    }
+    let at = s.len() - suffix.len();
+    equal(suffix, &s[at..])
 }
 
 pub fn less(a: &[u8], b: &[u8]) -> bool
@@ -41,6 +89,34 @@ pub fn less(a: &[u8], b: &[u8]) -> bool
         }
         i += 1;
     }
+}
+
+// Whether the byte occurs.
+pub fn contains(s: &[u8], b: u8) -> bool
+    ensures { λ r. ⌜ r ≡ contains b (now (s .entry)) ⌝ }
+{
+    let mut i = 0;
+    while i < s.len() {
+        if s[i] == b {
+            return true;
+        }
+        i += 1;
+    }
+    false
+}
+
+// Whether the text occurs.
+pub fn contains_text(s: &[u8], t: &[u8]) -> bool
+    ensures { λ r. ⌜ r ≡ containsText (now (t .entry)) (now (s .entry)) ⌝ }
+{
+    let mut i = 0;
+    while i < s.len() {
+        if starts_with(&s[i..], t) {
+            return true;
+        }
+        i += 1;
+    }
+    t.len() == 0
 }
 
 // How often the byte occurs.
@@ -86,13 +162,59 @@ pub fn rfind(s: &[u8], b: u8) -> usize
     s.len()
 }
 
+// How many of n elements have room in a buffer from a place on.
+fn room(size: usize, at: usize, n: usize) -> usize
+    ensures { λ r. ⌜ r ≡ min n (size - at) ⌝ }
+{
+    if size <= at {
+        return 0;
+    }
+    if n < size - at {
+        return n;
+    }
+    size - at
+}
+
+// Puts src at a place of dst, as far as dst reaches.
+pub fn copy_at(dst: &mut [u8], at: usize, src: &[u8])
+    ensures { λ _. ⌜ now (dst .exit) ≡ overwrite at (now (src .entry)) (now (dst .entry)) ⌝ }
+{
+    let n = room(dst.len(), at, src.len());
+    let mut i = 0;
+    while i < n {
+        dst[at + i] = src[i];
+        i += 1;
+    }
+}
+
+// Zeros from a place on.
+pub fn zero_from(dst: &mut [u8], at: usize)
+    ensures { λ _. ⌜ now (dst .exit) ≡ zeroFrom at (now (dst .entry)) ⌝ }
+{
+    let mut i = at;
+    while i < dst.len() {
+        dst[i] = 0;
+        i += 1;
+    }
+}
+
+pub fn zero_from_u32(dst: &mut [u32], at: usize)
+    ensures { λ _. ⌜ now (dst .exit) ≡ zeroFrom at (now (dst .entry)) ⌝ }
+{
+    let mut i = at;
+    while i < dst.len() {
+        dst[i] = 0;
+        i += 1;
+    }
+}
+
 // What a byte that begins a character leaves due.
 pub enum Owed {
     More { n: u8, low: u8, high: u8 },
     Bad,
 }
 
-pub fn opens(b: u8) -> Owed
+fn opens(b: u8) -> Owed
     ensures { λ r. ⌜ meant r ≡ dueAfter b ⌝ }
 {
     if b < 128 {
@@ -158,7 +280,7 @@ pub fn opens(b: u8) -> Owed
 }
 
 // The state after one more byte.
-pub fn next(n: u8, low: u8, high: u8, b: u8) -> Owed
+fn next(n: u8, low: u8, high: u8, b: u8) -> Owed
     ensures { λ r. ⌜ ((s : List ℕ) → isUtf8From (b ∷ s) (due n low high) ≡ isUtf8From s (meant r)) ⌝ }
 {
     if n == 0 {
@@ -177,9 +299,28 @@ pub fn next(n: u8, low: u8, high: u8, b: u8) -> Owed
     }
 }
 
+// At least every byte of s.
+fn largest(s: &[u8]) -> u8
+    ensures { λ r. ⌜ ((k : ℕ) → k < length (now (s .entry)) → getD (now (s .entry)) k 0 ≤ r) ⌝ }
+{
+    let mut m: u8 = 0;
+    let mut i = 0;
+    while i < s.len() {
+        if m < s[i] {
+            m = s[i];
+        }
+        i += 1;
+    }
+    m
+}
+
 pub fn is_utf8(s: &[u8]) -> bool
     ensures { λ r. ⌜ r ≡ isUtf8 (now (s .entry)) ⌝ }
 {
+    // Most texts are ASCII, and their largest byte is found many bytes at a time.
+    if largest(s) < 128 {
+        return true;
+    }
     let mut n: u8 = 0;
     let mut low: u8 = 0;
     let mut high: u8 = 0;

@@ -1,0 +1,36 @@
+-- What is decoded into a buffer.
+use mathlib.Core.Path.{_≡_}
+use Prim.Native.Nat.{ℕ, _+_, _≤_, _<_}
+use mathlib.Core.List.{List, _++_}
+use lib.ListN.{length, drop, take}
+use Rattle.definition.specs.Json.{Read, got, fault}
+use Rattle.package_json.specs.Scanned.{faultOf}
+use Rattle.package_json.specs.declared.Put.{Put}
+use Rattle.package_json.specs.declared.Put.the-variants.{To, Over}
+use Rattle.package_json.specs.declared.Text.{Text}
+use Rattle.package_json.specs.declared.Text.the-variants.{End, Fault}
+
+-- the bytes `out` stand behind the first n of the buffer, or passed the limit
+pub record Stands (w w′ : List ℕ) (n : ℕ) (out : List ℕ) (k : ℕ) : Type 0 where
+  pub count : k ≡ n + length out
+  pub room : k ≤ 1024
+  pub bytes : take k w′ ≡ take n w ++ out
+  pub kept : drop k w′ ≡ drop k w
+
+abbrev pub Puts : List ℕ → List ℕ → ℕ → List ℕ → Put → Type 0
+Puts w w′ n out (To k) = Stands w w′ n out k
+Puts w w′ n out Over = (1024 < n + length out) × (w′ ≡ w)
+
+-- a string was read: its decoded bytes are the buffer's first
+abbrev pub decoded : List ℕ → List ℕ → Text → Read (List ℕ)
+decoded m w (End e n) = got (take n w) (drop e m)
+decoded m w (Fault f) = fault (faultOf f)
+
+-- and nothing behind them changed; a fault leaves free how far it wrote
+abbrev pub Kept : List ℕ → List ℕ → Text → Type 0
+Kept w w′ (End e n) = (n ≤ 1024) × (drop n w′ ≡ drop n w)
+Kept w w′ (Fault f) = (n : ℕ) × (drop n w′ ≡ drop n w)
+
+pub record Decodes (m w w′ : List ℕ) (x : Read (List ℕ)) (r : Text) : Type 0 where
+  pub is : x ≡ decoded m w′ r
+  pub kept : Kept w w′ r

@@ -1,0 +1,5 @@
+pub mod Scanned
+pub mod Automaton
+pub mod Decoded
+pub mod Names
+pub mod Stands

@@ -1,0 +1,859 @@
+ghost use mathlib.Core.Path.{_≡_};
+ghost use mathlib.Core.Bool.{Bool, true, false};
+ghost use Prim.Native.Nat.{ℕ, suc, _+_, _-_, _≤_, _<_};
+ghost use lib.ListN.{length, drop, take};
+ghost use Rattle.definition.specs.Text.{isDigit, hexDigit, utf8, trail as trailOf, equal as equalOf};
+ghost use Rattle.definition.specs.Json.{isSpace, skipSpace, skipDigits, digits as digitsOf, startsValue, sign as signOf, exponent as exponentOf, fraction as fractionOf, integer as integerOf, word as wordOf, plainByte, escapeByte, unit as unitOf, pair as pairOf, hexByte, secondHexByte, step as stepBy, sequence, between, string as stringOf, quoted as quotedOf, memberName, Read, Json, value as valueOf, array as arrayOf, object as objectOf, elements as elementsOf, members as membersOf, got, str, replaceBom, obj, Members, member, Elements, element as elementOf};
+ghost use Rattle.package_json.specs.Stands.{Root};
+ghost use Rattle.package_json.specs.Automaton.{placeOf, stepOf, outOf, Steps, Good, High, Below, leadByte, digitOf, Fair};
+ghost use Rattle.package_json.specs.Decoded.{Puts, Decodes};
+ghost use mathlib.Core.List.{List, [], _∷_};
+ghost use Rattle.package_json.specs.Names.{isText, anyName, Named, colonAt, keyOf};
+ghost use Rattle.package_json.specs.Scanned.{Reads, scalarOf, afterOf, afterAt};
+
+// What is wrong with a manifest, first: no JSON text can go on (7), a limit is passed (40), a name stands twice in one object (41).
+pub enum Fault {
+    Malformed,
+    Beyond,
+    Twice,
+}
+
+// Where a scan ended, or its fault.
+pub enum Scan {
+    End(usize),
+    Fault(Fault),
+}
+
+// White space of JSON.
+fn is_space(b: u8) -> bool
+    ensures { λ r. ⌜ r ≡ isSpace b ⌝ }
+{
+    if b == 32 {
+        return true;
+    }
+    if b == 9 {
+        return true;
+    }
+    if b == 10 {
+        return true;
+    }
+    b == 13
+}
+
+// The place of the first byte from `at` on that is no white space.
+fn skip_space(m: &[u8], at: usize) -> usize
+    ensures { λ r. ⌜ skipSpace (drop at (now (m .entry))) ≡ drop r (now (m .entry)) ⌝ }
+{
+    let mut i = at;
+    while i < m.len() {
+        let space = is_space(m[i]);
+        if space {
+            i += 1;
+        } else {
+            return i;
+        }
+    }
+    i
+}
+
+// 0 to 9.
+fn is_digit(b: u8) -> bool
+    ensures { λ r. ⌜ r ≡ isDigit b ⌝ }
+{
+    if b < 48 {
+        return false;
+    }
+    b <= 57
+}
+
+// The place of the first byte from `at` on that is no digit.
+fn skip_digits(m: &[u8], at: usize) -> usize
+    ensures { λ r. ⌜ skipDigits (drop at (now (m .entry))) ≡ drop r (now (m .entry)) ⌝ }
+{
+    let mut i = at;
+    while i < m.len() {
+        let digit = is_digit(m[i]);
+        if digit {
+            i += 1;
+        } else {
+            return i;
+        }
+    }
+    i
+}
+
+// One digit or more.
+fn digits(m: &[u8], at: usize) -> Scan
+    ensures { λ r. ⌜ Reads (now (m .entry)) (digitsOf (drop at (now (m .entry)))) r ⌝ }
+{
+    if at < m.len() {
+        let digit = is_digit(m[at]);
+        if digit {
+            return Scan::End(skip_digits(m, at + 1));
+        }
+    }
+    Scan::Fault(Fault::Malformed)
+}
+
+// Past a sign, if one stands here.
+fn sign(m: &[u8], at: usize) -> usize
+    ensures { λ r. ⌜ signOf (drop at (now (m .entry))) ≡ drop r (now (m .entry)) ⌝ }
+{
+    if at < m.len() {
+        let b = m[at];
+        if b == b'+' {
+            return at + 1;
+        }
+        if b == b'-' {
+            return at + 1;
+        }
+    }
+    at
+}
+
+fn exponent(m: &[u8], at: usize) -> Scan
+    ensures { λ r. ⌜ Reads (now (m .entry)) (exponentOf (drop at (now (m .entry)))) r ⌝ }
+{
+    if at < m.len() {
+        let b = m[at];
+        if b == b'e' {
+            return digits(m, sign(m, at + 1));
+        }
+        if b == b'E' {
+            return digits(m, sign(m, at + 1));
+        }
+    }
+    Scan::End(at)
+}
+
+fn fraction(m: &[u8], at: usize) -> Scan
+    ensures { λ r. ⌜ Reads (now (m .entry)) (fractionOf (drop at (now (m .entry)))) r ⌝ }
+{
+    if at < m.len() {
+        if m[at] == b'.' {
+            let read = digits(m, at + 1);
+            return match read {
+                Scan::Fault(n) => Scan::Fault(n),
+                Scan::End(end) => exponent(m, end),
+            };
+        }
+        return exponent(m, at);
+    }
+    Scan::End(at)
+}
+
+fn integer(m: &[u8], at: usize) -> Scan
+    ensures { λ r. ⌜ Reads (now (m .entry)) (integerOf (drop at (now (m .entry)))) r ⌝ }
+{
+    if at < m.len() {
+        let b = m[at];
+        if b == b'0' {
+            return fraction(m, at + 1);
+        }
+        let digit = is_digit(b);
+        if digit {
+            return fraction(m, skip_digits(m, at + 1));
+        }
+    }
+    Scan::Fault(Fault::Malformed)
+}
+
+// The rest of null, true or false.
+fn word(m: &[u8], at: usize, w: &[u8]) -> Scan
+    ensures { λ r. ⌜ Reads (now (m .entry)) (wordOf (now (w .entry)) (drop at (now (m .entry)))) r ⌝ }
+{
+    let mut i = at;
+    let mut k: usize = 0;
+    while k < w.len() {
+        if i >= m.len() {
+            return Scan::Fault(Fault::Malformed);
+        }
+        if m[i] != w[k] {
+            return Scan::Fault(Fault::Malformed);
+        }
+        i += 1;
+        k += 1;
+    }
+    Scan::End(i)
+}
+
+// A value that is no string and opens no bracket.
+fn scalar(m: &[u8], at: usize) -> Scan
+    ensures { λ r. ⌜ Reads (now (m .entry)) (scalarOf (drop at (now (m .entry)))) r ⌝ }
+{
+    if at < m.len() {
+        let b = m[at];
+        if b == b't' {
+            return word(m, at + 1, b"rue");
+        }
+        if b == b'f' {
+            return word(m, at + 1, b"alse");
+        }
+        if b == b'n' {
+            return word(m, at + 1, b"ull");
+        }
+        if b == b'-' {
+            return integer(m, at + 1);
+        }
+        return integer(m, at);
+    }
+    Scan::Fault(Fault::Malformed)
+}
+
+// A byte with which a value can begin.
+fn starts_value(b: u8) -> bool
+    ensures { λ r. ⌜ r ≡ startsValue b ⌝ }
+{
+    let digit = is_digit(b);
+    if digit {
+        return true;
+    }
+    if b == b'"' {
+        return true;
+    }
+    if b == b'{' {
+        return true;
+    }
+    if b == b'[' {
+        return true;
+    }
+    if b == b'-' {
+        return true;
+    }
+    if b == b't' {
+        return true;
+    }
+    if b == b'f' {
+        return true;
+    }
+    b == b'n'
+}
+
+// What stands behind an element or a member: the next one, the end of them, or neither.
+pub enum Then {
+    More(usize),
+    Close(usize),
+    Neither,
+}
+
+fn after(m: &[u8], at: usize, bracket: u8) -> Then
+    ensures { λ r. ⌜ afterOf bracket (skipSpace (drop at (now (m .entry)))) ≡ afterAt (now (m .entry)) r ⌝ }
+{
+    let i = skip_space(m, at);
+    if i < m.len() {
+        let b = m[i];
+        if b == b',' {
+            return Then::More(skip_space(m, i + 1));
+        }
+        if b == bracket {
+            return Then::Close(i + 1);
+        }
+    }
+    Then::Neither
+}
+
+// Where the reader of a string stands: the definition's place.
+pub enum Place {
+    Between,
+    Sequence(u8, u8, u8),
+    Escape,
+    Hex(u8, u32),
+    SecondEscape(u32),
+    SecondU(u32),
+    SecondHex(u32, u8, u32),
+}
+
+// The decoded bytes that a byte gives: none, itself or another one, or those of a code point.
+pub enum Out {
+    None,
+    Byte(u8),
+    Point(u32),
+}
+
+pub enum Step {
+    Bad,
+    Close,
+    Gives(Out, Place),
+}
+
+// A byte between characters.
+fn plain_byte(b: u8) -> Step
+    ensures { λ r. ⌜ Steps (plainByte b) r ⌝ }
+{
+    if b < 32 {
+        return Step::Bad;
+    }
+    if b == 34 {
+        return Step::Close;
+    }
+    if b == 92 {
+        return Step::Gives(Out::None, Place::Escape);
+    }
+    if b < 128 {
+        return Step::Gives(Out::Byte(b), Place::Between);
+    }
+    lead_byte(b)
+}
+
+// The first byte of a UTF-8 sequence.
+fn lead_byte(b: u8) -> Step
+    ensures { λ r. ⌜ Steps (leadByte b) r ⌝ }
+{
+    if b < 194 {
+        return Step::Bad;
+    }
+    if b <= 223 {
+        return Step::Gives(Out::Byte(b), Place::Sequence(1, 128, 191));
+    }
+    if b == 224 {
+        return Step::Gives(Out::Byte(b), Place::Sequence(2, 160, 191));
+    }
+    if b == 237 {
+        return Step::Gives(Out::Byte(b), Place::Sequence(2, 128, 159));
+    }
+    if b <= 239 {
+        return Step::Gives(Out::Byte(b), Place::Sequence(2, 128, 191));
+    }
+    if b == 240 {
+        return Step::Gives(Out::Byte(b), Place::Sequence(3, 144, 191));
+    }
+    if b <= 243 {
+        return Step::Gives(Out::Byte(b), Place::Sequence(3, 128, 191));
+    }
+    if b == 244 {
+        return Step::Gives(Out::Byte(b), Place::Sequence(3, 128, 143));
+    }
+    Step::Bad
+}
+
+// A further byte of a UTF-8 sequence.
+fn sequence_byte(n: u8, lo: u8, hi: u8, b: u8) -> Step
+    requires { ⌜ 0 < n ⌝ }
+    ensures { λ r. ⌜ Steps (stepBy (sequence n lo hi) b) r ⌝ }
+{
+    if b < lo {
+        return Step::Bad;
+    }
+    if b > hi {
+        return Step::Bad;
+    }
+    if n == 1 {
+        return Step::Gives(Out::Byte(b), Place::Between);
+    }
+    Step::Gives(Out::Byte(b), Place::Sequence(n - 1, 128, 191))
+}
+
+// The byte behind a backslash.
+fn escape_byte(b: u8) -> Step
+    ensures { λ r. ⌜ Steps (escapeByte b) r ⌝ }
+{
+    if b == b'"' {
+        return Step::Gives(Out::Byte(b), Place::Between);
+    }
+    if b == b'\\' {
+        return Step::Gives(Out::Byte(b), Place::Between);
+    }
+    if b == b'/' {
+        return Step::Gives(Out::Byte(b), Place::Between);
+    }
+    if b == b'b' {
+        return Step::Gives(Out::Byte(8), Place::Between);
+    }
+    if b == b'f' {
+        return Step::Gives(Out::Byte(12), Place::Between);
+    }
+    if b == b'n' {
+        return Step::Gives(Out::Byte(10), Place::Between);
+    }
+    if b == b'r' {
+        return Step::Gives(Out::Byte(13), Place::Between);
+    }
+    if b == b't' {
+        return Step::Gives(Out::Byte(9), Place::Between);
+    }
+    if b == b'u' {
+        return Step::Gives(Out::None, Place::Hex(4, 0));
+    }
+    Step::Bad
+}
+
+// The value of a hexadecimal digit, or 16.
+fn hex_digit(b: u8) -> u32
+    ensures { λ r. ⌜ (hexDigit b ≡ digitOf r) × (r ≤ 16) ⌝ }
+{
+    if b < 48 {
+        return 16;
+    }
+    if b <= 57 {
+        return (b - 48) as u32;
+    }
+    if b < 65 {
+        return 16;
+    }
+    if b <= 70 {
+        return (b - 55) as u32;
+    }
+    if b < 97 {
+        return 16;
+    }
+    if b <= 102 {
+        return (b - 87) as u32;
+    }
+    16
+}
+
+// The number behind \u.
+fn unit(v: u32) -> Step
+    requires { ⌜ v < 65536 ⌝ }
+    ensures { λ r. ⌜ Steps (unitOf v) r ⌝ }
+{
+    if v < 0xd800 {
+        return Step::Gives(Out::Point(v), Place::Between);
+    }
+    if v <= 0xdbff {
+        return Step::Gives(Out::None, Place::SecondEscape(v));
+    }
+    if v <= 0xdfff {
+        return Step::Bad;
+    }
+    Step::Gives(Out::Point(v), Place::Between)
+}
+
+// The two halves of a surrogate pair.
+fn pair(high: u32, low: u32) -> Step
+    requires { ⌜ High high ⌝ }
+    ensures { λ r. ⌜ Steps (pairOf high low) r ⌝ }
+{
+    if low < 0xdc00 {
+        return Step::Bad;
+    }
+    if low > 0xdfff {
+        return Step::Bad;
+    }
+    let c = 0x10000 + (high - 0xd800) * 0x400 + (low - 0xdc00);
+    Step::Gives(Out::Point(c), Place::Between)
+}
+
+fn hex_byte(n: u8, v: u32, b: u8) -> Step
+    requires { ⌜ Below n v ⌝ }
+    ensures { λ r. ⌜ Steps (hexByte n v (hexDigit b)) r ⌝ }
+{
+    let x = hex_digit(b);
+    if x > 15 {
+        return Step::Bad;
+    }
+    let u = v * 16 + x;
+    if n == 1 {
+        return unit(u);
+    }
+    Step::Gives(Out::None, Place::Hex(n - 1, u))
+}
+
+fn second_hex_byte(high: u32, n: u8, v: u32, b: u8) -> Step
+    requires { ⌜ High high × Below n v ⌝ }
+    ensures { λ r. ⌜ Steps (secondHexByte high n v (hexDigit b)) r ⌝ }
+{
+    let x = hex_digit(b);
+    if x > 15 {
+        return Step::Bad;
+    }
+    let u = v * 16 + x;
+    if n == 1 {
+        return pair(high, u);
+    }
+    Step::Gives(Out::None, Place::SecondHex(high, n - 1, u))
+}
+
+// What a byte does at a place.
+fn advance(p: Place, b: u8) -> Step
+    requires { ⌜ Good p ⌝ }
+    ensures { λ r. ⌜ Steps (stepBy (placeOf p) b) r ⌝ }
+{
+    match p {
+        Place::Between => plain_byte(b),
+        Place::Sequence(n, lo, hi) => sequence_byte(n, lo, hi, b),
+        Place::Escape => escape_byte(b),
+        Place::Hex(n, v) => hex_byte(n, v, b),
+        Place::SecondEscape(high) => {
+            if b == b'\\' {
+                Step::Gives(Out::None, Place::SecondU(high))
+            } else {
+                Step::Bad
+            }
+        }
+        Place::SecondU(high) => {
+            if b == b'u' {
+                Step::Gives(Out::None, Place::SecondHex(high, 4, 0))
+            } else {
+                Step::Bad
+            }
+        }
+        Place::SecondHex(high, n, v) => second_hex_byte(high, n, v, b),
+    }
+}
+
+// Whether decoded bytes had room.
+pub enum Put {
+    To(usize),
+    Over,
+}
+
+// 01's limit on a decoded string.
+const ROOM: usize = 1024;
+
+// A byte behind the n that stand.
+fn put_byte(w: &mut [u8], n: usize, b: u8) -> Put
+    requires { ⌜ (n ≤ 1024) × (1024 ≤ length (now w)) ⌝ }
+    ensures { λ r. ⌜ Puts (now (w .entry)) (now (w .exit)) n (b ∷ []) r ⌝ }
+{
+    if n < ROOM {
+        w[n] = b;
+        return Put::To(n + 1);
+    }
+    Put::Over
+}
+
+// The last six bits of a code point.
+fn trail(c: u32) -> u8
+    ensures { λ r. ⌜ r ≡ trailOf c ⌝ }
+{
+    (128 + c % 64) as u8
+}
+
+// The UTF-8 bytes of a code point.
+fn put_point(w: &mut [u8], n: usize, c: u32) -> Put
+    requires { ⌜ (n ≤ 1024) × (1024 ≤ length (now w)) × (c < 1114112) ⌝ }
+    ensures { λ r. ⌜ Puts (now (w .entry)) (now (w .exit)) n (utf8 c) r ⌝ }
+{
+    if c < 128 {
+        return put_byte(w, n, c as u8);
+    }
+    if c < 2048 {
+        if n + 2 > ROOM {
+            return Put::Over;
+        }
+        w[n] = (192 + c / 64) as u8;
+        w[n + 1] = trail(c);
+        return Put::To(n + 2);
+    }
+    if c < 65536 {
+        if n + 3 > ROOM {
+            return Put::Over;
+        }
+        w[n] = (224 + c / 4096) as u8;
+        w[n + 1] = trail(c / 64);
+        w[n + 2] = trail(c);
+        return Put::To(n + 3);
+    }
+    if n + 4 > ROOM {
+        return Put::Over;
+    }
+    w[n] = (240 + c / 262144) as u8;
+    w[n + 1] = trail(c / 4096);
+    w[n + 2] = trail(c / 64);
+    w[n + 3] = trail(c);
+    Put::To(n + 4)
+}
+
+fn put_out(w: &mut [u8], n: usize, o: Out) -> Put
+    requires { ⌜ (n ≤ 1024) × (1024 ≤ length (now w)) × Fair o ⌝ }
+    ensures { λ r. ⌜ Puts (now (w .entry)) (now (w .exit)) n (outOf o) r ⌝ }
+{
+    match o {
+        Out::None => Put::To(n),
+        Out::Byte(b) => put_byte(w, n, b),
+        Out::Point(c) => put_point(w, n, c),
+    }
+}
+
+// Where a string ends and how many decoded bytes it has, or the number of its fault.
+pub enum Text {
+    End(usize, usize),
+    Fault(Fault),
+}
+
+// A string behind its opening quote, decoded into w.
+fn string(m: &[u8], at: usize, w: &mut [u8]) -> Text
+    requires { ⌜ 1024 ≤ length (now w) ⌝ }
+    ensures { λ r. ⌜ Decodes (now (m .entry)) (now (w .entry)) (now (w .exit)) (stringOf 1024 between (drop at (now (m .entry)))) r ⌝ }
+{
+    let mut p = Place::Between;
+    let mut i = at;
+    let mut n: usize = 0;
+    while i < m.len() {
+        let s = advance(p, m[i]);
+        match s {
+            Step::Bad => return Text::Fault(Fault::Malformed),
+            Step::Close => return Text::End(i + 1, n),
+            Step::Gives(o, q) => {
+                let t = put_out(w, n, o);
+                match t {
+                    Put::Over => return Text::Fault(Fault::Beyond),
+                    Put::To(k) => {
+                        n = k;
+                        p = q;
+                        i += 1;
+                    }
+                }
+            }
+        }
+    }
+    Text::Fault(Fault::Malformed)
+}
+
+// A string from its opening quote, decoded into w.
+pub fn quoted(m: &[u8], at: usize, w: &mut [u8]) -> Text
+    requires { ⌜ 1024 ≤ length (now w) ⌝ }
+    ensures { λ r. ⌜ Decodes (now (m .entry)) (now (w .entry)) (now (w .exit)) (quotedOf (drop at (now (m .entry)))) r ⌝ }
+{
+    if at < m.len() {
+        if m[at] == b'"' {
+            return string(m, at + 1, w);
+        }
+    }
+    Text::Fault(Fault::Malformed)
+}
+
+// Whether the string at a place is, decoded, the text `key`.
+pub fn name_is(m: &[u8], at: usize, key: &[u8]) -> bool
+    ensures { λ r. ⌜ r ≡ isText (quotedOf (drop at (now (m .entry)))) (now (key .entry)) ⌝ }
+{
+    let mut w = [0u8; 1024];
+    let read = quoted(m, at, &mut w);
+    match read {
+        Text::Fault(_) => false,
+        Text::End(_, n) => text::equal(&w[..n], key),
+    }
+}
+
+// Whether one of the names at the places from `from` on is the text `key`.
+fn repeated(m: &[u8], key: &[u8], names: &[usize], from: usize) -> bool
+    ensures { λ r. ⌜ r ≡ anyName (now (m .entry)) (drop from (now (names .entry))) (now (key .entry)) ⌝ }
+{
+    let mut i = from;
+    while i < names.len() {
+        let same = name_is(m, names[i], key);
+        if same {
+            return true;
+        }
+        i += 1;
+    }
+    false
+}
+
+// A member's name, which is none of the names at the places from `from` on.
+fn member_name(m: &[u8], at: usize, names: &[usize], from: usize) -> Scan
+    ensures { λ r. ⌜ ((ns : List (List ℕ)) → Named (now (m .entry)) (drop from (now (names .entry))) ns → Reads (now (m .entry)) (memberName ns (drop at (now (m .entry)))) r) ⌝ }
+{
+    let mut w = [0u8; 1024];
+    let read = quoted(m, at, &mut w);
+    match read {
+        Text::Fault(n) => Scan::Fault(n),
+        Text::End(end, n) => {
+            let again = repeated(m, &w[..n], names, from);
+            if again {
+                return Scan::Fault(Fault::Twice);
+            }
+            Scan::End(end)
+        }
+    }
+}
+
+// The colon behind a name: where the value begins.
+fn colon(m: &[u8], at: usize) -> Scan
+    ensures { λ r. ⌜ Reads (now (m .entry)) (colonAt (skipSpace (drop at (now (m .entry))))) r ⌝ }
+{
+    let i = skip_space(m, at);
+    if i < m.len() {
+        if m[i] == b':' {
+            return Scan::End(skip_space(m, i + 1));
+        }
+    }
+    Scan::Fault(Fault::Malformed)
+}
+
+// A member up to its value.
+fn key(m: &[u8], at: usize, names: &[usize], from: usize) -> Scan
+    ensures { λ r. ⌜ ((ns : List (List ℕ)) → Named (now (m .entry)) (drop from (now (names .entry))) ns → Reads (now (m .entry)) (keyOf ns (drop at (now (m .entry)))) r) ⌝ }
+{
+    let name = member_name(m, at, names, from);
+    match name {
+        Scan::Fault(n) => Scan::Fault(n),
+        Scan::End(end) => colon(m, end),
+    }
+}
+
+// A value in which `depth` more brackets may be open.
+fn value(m: &[u8], at: usize, depth: usize) -> Scan
+    ensures { λ r. ⌜ Reads (now (m .entry)) (valueOf depth (drop at (now (m .entry)))) r ⌝ }
+{
+    if at < m.len() {
+        let b = m[at];
+        if b == b'"' {
+            return skip_text(m, at);
+        }
+        if b == b'[' {
+            if depth == 0 {
+                return Scan::Fault(Fault::Beyond);
+            }
+            return array(m, at + 1, depth - 1);
+        }
+        if b == b'{' {
+            if depth == 0 {
+                return Scan::Fault(Fault::Beyond);
+            }
+            return object(m, at + 1, depth - 1);
+        }
+        return scalar(m, at);
+    }
+    Scan::Fault(Fault::Malformed)
+}
+
+// An array behind its bracket, with values of `depth`.
+fn array(m: &[u8], at: usize, depth: usize) -> Scan
+    ensures { λ r. ⌜ Reads (now (m .entry)) (arrayOf (valueOf depth) (skipSpace (drop at (now (m .entry))))) r ⌝ }
+{
+    let mut i = skip_space(m, at);
+    if i >= m.len() {
+        return Scan::Fault(Fault::Malformed);
+    }
+    if m[i] == b']' {
+        return Scan::End(i + 1);
+    }
+    let mut left: usize = 128;
+    while left > 0 {
+        let read = value(m, i, depth);
+        match read {
+            Scan::Fault(n) => return Scan::Fault(n),
+            Scan::End(end) => {
+                let then = after(m, end, b']');
+                match then {
+                    Then::Neither => return Scan::Fault(Fault::Malformed),
+                    Then::Close(next) => return Scan::End(next),
+                    Then::More(next) => {
+                        i = next;
+                        left -= 1;
+                    }
+                }
+            }
+        }
+    }
+    extra_element(m, i)
+}
+
+// An object behind its bracket.
+fn object(m: &[u8], at: usize, depth: usize) -> Scan
+    ensures { λ r. ⌜ Reads (now (m .entry)) (objectOf (valueOf depth) (skipSpace (drop at (now (m .entry))))) r ⌝ }
+{
+    let mut i = skip_space(m, at);
+    if i >= m.len() {
+        return Scan::Fault(Fault::Malformed);
+    }
+    if m[i] == b'}' {
+        return Scan::End(i + 1);
+    }
+    let mut names = [0usize; 128];
+    let mut left: usize = 128;
+    while left > 0 {
+        let start = key(m, i, &names, left);
+        match start {
+            Scan::Fault(n) => return Scan::Fault(n),
+            Scan::End(from) => {
+                let read = value(m, from, depth);
+                match read {
+                    Scan::Fault(n) => return Scan::Fault(n),
+                    Scan::End(end) => {
+                        let then = after(m, end, b'}');
+                        match then {
+                            Then::Neither => return Scan::Fault(Fault::Malformed),
+                            Then::Close(next) => return Scan::End(next),
+                            Then::More(next) => {
+                                left -= 1;
+                                names[left] = i;
+                                i = next;
+                            }
+                        }
+                    }
+                }
+            }
+        }
+    }
+    extra_member(m, i)
+}
+
+// The 129th element: over the limit, if one can begin here.
+fn extra_element(m: &[u8], at: usize) -> Scan
+    ensures { λ r. ⌜ ((v : List ℕ → Read Json) → Reads (now (m .entry)) (elementsOf v 0 (drop at (now (m .entry)))) r) ⌝ }
+{
+    if at < m.len() {
+        let starts = starts_value(m[at]);
+        if starts {
+            return Scan::Fault(Fault::Beyond);
+        }
+    }
+    Scan::Fault(Fault::Malformed)
+}
+
+fn extra_member(m: &[u8], at: usize) -> Scan
+    ensures { λ r. ⌜ ((v : List ℕ → Read Json) (ns : List (List ℕ)) → Reads (now (m .entry)) (membersOf v ns 0 (drop at (now (m .entry)))) r) ⌝ }
+{
+    if at < m.len() {
+        if m[at] == b'"' {
+            return Scan::Fault(Fault::Beyond);
+        }
+    }
+    Scan::Fault(Fault::Malformed)
+}
+
+// A string as a value.
+fn skip_text(m: &[u8], at: usize) -> Scan
+    ensures { λ r. ⌜ Reads (now (m .entry)) (quotedOf (drop at (now (m .entry)))) r ⌝ }
+{
+    let mut w = [0u8; 1024];
+    let read = quoted(m, at, &mut w);
+    match read {
+        Text::Fault(n) => Scan::Fault(n),
+        Text::End(end, _) => Scan::End(end),
+    }
+}
+
+// How long a byte order mark is that stands first.
+fn mark(m: &[u8]) -> usize
+    ensures { λ r. ⌜ skipSpace (replaceBom (now (m .entry))) ≡ skipSpace (drop r (now (m .entry))) ⌝ }
+{
+    if m.len() < 3 {
+        return 0;
+    }
+    if m[0] != 0xef {
+        return 0;
+    }
+    if m[1] != 0xbb {
+        return 0;
+    }
+    if m[2] != 0xbf {
+        return 0;
+    }
+    3
+}
+
+// A manifest: where its root value stands, or its first fault.
+pub fn root(m: &[u8]) -> Scan
+    ensures { λ r. ⌜ Root (now (m .entry)) r ⌝ }
+{
+    if m.len() > 16384 {
+        return Scan::Fault(Fault::Beyond);
+    }
+    let from = mark(m);
+    let start = skip_space(m, from);
+    let read = value(m, start, 16);
+    match read {
+        Scan::Fault(n) => Scan::Fault(n),
+        Scan::End(end) => {
+            let last = skip_space(m, end);
+            if last < m.len() {
+                return Scan::Fault(Fault::Malformed);
+            }
+            Scan::End(start)
+        }
+    }
+}
