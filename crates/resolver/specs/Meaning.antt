@@ -14,8 +14,8 @@ use Rattle.resolver.specs.declared.Way.the-variants.{Next, Stopped}
 abbrev pub tapeOf : List ℕ → List ℕ → List ℕ → Mark → Tape
 tapeOf result numbers text m = record { result = result; numbers = numbers; text = text; count = m .count; size = m .size }
 
-abbrev pub consult : Text → ℕ → Consult
-consult p s = record { path = p; state = s }
+abbrev pub consultOf : Text → ℕ → Consult
+consultOf p s = record { path = p; state = s }
 
 abbrev pub place : Text → Text → Text → Place
 place p q f = record { path = p; query = q; fragment = f }

@@ -8,8 +8,9 @@ ghost use Rattle.definition.specs.Listing.{entryAt};
 ghost use Rattle.definition.specs.Settings.{Settings};
 ghost use Rattle.definition.specs.Called.{seenBy};
 ghost use Rattle.definition.specs.Walk.{isFile, tryFile};
+ghost use Rattle.listing.specs.Meaning.{seen};
 ghost use Rattle.resolver.specs.Tape.{most, packed, put, Done};
-ghost use Rattle.resolver.specs.Meaning.{tapeOf, consult, stepOf, place};
+ghost use Rattle.resolver.specs.Meaning.{tapeOf, consultOf, stepOf, place};
 
 // How a lookup ended: the number of document 01, and the lengths of its texts, which stand in the result text.
 pub struct Ending {
@@ -64,5 +65,39 @@ fn note_number(nums: &mut [u32], count: usize, n: usize, state: u8)
     }
     if nums.len() - count > 2 {
         nums[count + 2] = ((n % 65536) as u32) + 65536 * (state as u32);
+    }
+}
+// One consult more in the list.
+fn note(path: &[u8], state: u8, nums: &mut [u32], text: &mut [u8], m: Mark) -> Mark
+    ensures { λ r. ⌜ ((result : List ℕ) → tapeOf result (now (nums .exit)) (now (text .exit)) r ≡ put (tapeOf result (now (nums .entry)) (now (text .entry)) m) (consultOf (now (path .entry)) state)) ⌝ }
+{
+    note_number(nums, m.count, path.len(), state);
+    text::copy_at(text, m.size, path);
+    Mark {
+        count: more(m.count, 1),
+        size: more(m.size, path.len()),
+    }
+}
+
+// The state of a path, as 01 numbers it: one consult.
+fn consult(l: &[u8], path: &[u8], nums: &mut [u32], text: &mut [u8], m: Mark) -> Asked
+    ensures state { λ r. ⌜ r .state ≡ asked (entryAt (now (l .entry)) (now (path .entry))) ⌝ }
+    ensures list { λ r. ⌜ ((result : List ℕ) → tapeOf result (now (nums .exit)) (now (text .exit)) (r .mark) ≡ put (tapeOf result (now (nums .entry)) (now (text .entry)) m) (consultOf (now (path .entry)) (r .state))) ⌝ }
+{
+    let found = listing::search(l, path);
+    let state = state_of(found);
+    Asked {
+        state,
+        mark: note(path, state, nums, text, m),
+    }
+}
+
+fn state_of(found: listing::Found) -> u8
+    ensures { λ r. ⌜ ((l : List ℕ) → r ≡ asked (seen l found)) ⌝ }
+{
+    match found {
+        listing::Found::Absent => 0,
+        listing::Found::Directory => 1,
+        listing::Found::File { start: _, end: _ } => 2,
     }
 }
