@@ -215,7 +215,7 @@ two-bytes b p q (tails-on {b = c} {x = x} {t = t} l h (tails-end cs)) =
     let e : 0xc0 + (b - 192) ≡ b = omega arith in
     let f : 0x80 + (c - 128) ≡ c = omega arith in
     let k : G.UTF8 ((b - 192) * 64 + (c - 128)) ((0xc0 + (b - 192)) ∷ (0x80 + (c - 128)) ∷ []) =
-        UTF8-2 (b - 192) (c - 128) _ (omega arith) refl (omega arith) (omega arith) in
+    UTF8-2 (b - 192) (c - 128) _ (omega arith) refl (omega arith) (omega arith) in
     and-plain (b ∷ c ∷ []) x t (behind-backslash (omega arith) (omega arith)) (rw (e, f) at k) cs
 
 three-bytes : (b lo hi : ℕ) → 224 ≤ b → b ≤ 239 → 128 ≤ lo → hi ≤ 191 → 2048 ≤ (b - 224) * 4096 + (lo - 128) * 64
@@ -226,7 +226,7 @@ three-bytes b lo hi p q m n low apart (tails-on {b = c} l h (tails-on {b = d} {x
     let f : 0x80 + (c - 128) ≡ c = omega arith in
     let g : 0x80 + (d - 128) ≡ d = omega arith in
     let k : G.UTF8 ((b - 224) * 4096 + (c - 128) * 64 + (d - 128)) ((0xe0 + (b - 224)) ∷ (0x80 + (c - 128)) ∷ (0x80 + (d - 128)) ∷ []) =
-        UTF8-3 (b - 224) (c - 128) (d - 128) _ (omega arith) (omega arith) refl (omega arith) (omega arith) (λ u v. apart c l h (omega arith) (omega arith)) in
+    UTF8-3 (b - 224) (c - 128) (d - 128) _ (omega arith) (omega arith) refl (omega arith) (omega arith) (λ u v. apart c l h (omega arith) (omega arith)) in
     and-plain (b ∷ c ∷ d ∷ []) x t (behind-backslash (omega arith) (omega arith)) (rw (e, f, g) at k) cs
 
 four-bytes : (b lo hi : ℕ) → 240 ≤ b → b ≤ 244 → 128 ≤ lo → hi ≤ 191 → 65536 ≤ (b - 240) * 262144 + (lo - 128) * 4096
@@ -237,8 +237,8 @@ four-bytes b lo hi p q m n low high (tails-on {b = c} l h (tails-on {b = d} l′
     let g : 0x80 + (d - 128) ≡ d = omega arith in
     let i : 0x80 + (a - 128) ≡ a = omega arith in
     let k : G.UTF8 ((b - 240) * 262144 + (c - 128) * 4096 + (d - 128) * 64 + (a - 128))
-        ((0xf0 + (b - 240)) ∷ (0x80 + (c - 128)) ∷ (0x80 + (d - 128)) ∷ (0x80 + (a - 128)) ∷ []) =
-        UTF8-4 (b - 240) (c - 128) (d - 128) (a - 128) _ (omega arith) (omega arith) (omega arith) refl (omega arith) (omega arith) in
+    ((0xf0 + (b - 240)) ∷ (0x80 + (c - 128)) ∷ (0x80 + (d - 128)) ∷ (0x80 + (a - 128)) ∷ []) =
+    UTF8-4 (b - 240) (c - 128) (d - 128) (a - 128) _ (omega arith) (omega arith) (omega arith) refl (omega arith) (omega arith) in
     and-plain (b ∷ c ∷ d ∷ a ∷ []) x t (behind-backslash (omega arith) (omega arith)) (rw (e, f, g, i) at k) cs
 
 -- between characters
@@ -292,8 +292,8 @@ number-chars (together {s = s} {v = v} f m (first-half p q (partner h))) = both 
         let e′ : w ≡ 0xdc00 + (w - 0xdc00) = omega arith in
         let c : ℕ = 0x10000 + (v - 0xd800) * 0x400 + (w - 0xdc00) in
         let k : G.char (92 ∷ 117 ∷ s ++ 92 ∷ 117 ∷ s′) (utf8 c) =
-            u-surrogates {h = v - 0xd800} {l = w - 0xdc00} (subst (G.4HEXDIG s) e f) (omega arith) (subst (G.4HEXDIG s′) e′ f′) (omega arith) refl
-            (utf8-table c (omega arith) (λ l h. omega arith)) in
+        u-surrogates {h = v - 0xd800} {l = w - 0xdc00} (subst (G.4HEXDIG s) e f) (omega arith) (subst (G.4HEXDIG s′) e′ f′) (omega arith) refl
+        (utf8-table c (omega arith) (λ l h. omega arith)) in
         rw append-assoc at (and-char k cs)
 
 -- behind a backslash

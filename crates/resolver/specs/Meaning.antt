@@ -1,6 +1,7 @@
 -- What the types of `resolver` mean.
 use mathlib.Core.List.{List, [], _∷_}
 use Prim.Native.Nat.{ℕ}
+use lib.ListN.{length}
 use Rattle.definition.specs.Text.{Text}
 use Rattle.definition.specs.Ask.{Consult, Step, go, stop}
 use Rattle.definition.specs.Manifest.{Place}
@@ -23,3 +24,7 @@ place p q f = record { path = p; query = q; fragment = f }
 abbrev pub stepOf : Way → Step Ending (Unit {0})
 stepOf Next = go tt
 stepOf (Stopped n) = stop n
+
+-- a number, and the lengths of three texts
+abbrev pub numbers : ℕ → Text → Text → Text → Ending
+numbers n a b c = record { number = n; first = length a; second = length b; third = length c }

@@ -3,6 +3,7 @@ ghost use mathlib.Core.Path.{_≡_};
 ghost use mathlib.Core.List.{List, _++_};
 ghost use Prim.Native.Nat.{ℕ, _+_, min};
 ghost use lib.ListN.{set};
+ghost use Rattle.definition.specs.Text.{overwrite};
 ghost use Rattle.definition.specs.Ask.{asked, go};
 ghost use Rattle.definition.specs.Listing.{entryAt};
 ghost use Rattle.definition.specs.Settings.{Settings};
@@ -10,7 +11,7 @@ ghost use Rattle.definition.specs.Called.{seenBy};
 ghost use Rattle.definition.specs.Walk.{isFile, tryFile};
 ghost use Rattle.listing.specs.Meaning.{seen};
 ghost use Rattle.resolver.specs.Tape.{most, packed, put, Done};
-ghost use Rattle.resolver.specs.Meaning.{tapeOf, consultOf, stepOf, place};
+ghost use Rattle.resolver.specs.Meaning.{tapeOf, consultOf, stepOf, place, numbers};
 
 // How a lookup ended: the number of document 01, and the lengths of its texts, which stand in the result text.
 pub struct Ending {
@@ -99,5 +100,63 @@ fn state_of(found: listing::Found) -> u8
         listing::Found::Absent => 0,
         listing::Found::Directory => 1,
         listing::Found::File { start: _, end: _ } => 2,
+    }
+}
+
+// Three texts one behind the other, as far as the result text reaches.
+fn put_texts(result: &mut [u8], a: &[u8], b: &[u8], c: &[u8])
+    ensures { λ _. ⌜ now (result .exit) ≡ overwrite 0 (now (a .entry) ++ (now (b .entry) ++ now (c .entry))) (now (result .entry)) ⌝ }
+{
+    text::copy_at(result, 0, a);
+    let n = a.len();
+    if n >= result.len() {
+        return;
+    }
+    text::copy_at(result, n, b);
+    let k = b.len();
+    if k >= result.len() - n {
+        return;
+    }
+    text::copy_at(result, n + k, c);
+}
+
+// The end of a lookup: its texts go to the result text.
+fn finish(number: u8, a: &[u8], b: &[u8], c: &[u8], result: &mut [u8]) -> Ending
+    ensures ending { λ r. ⌜ r ≡ numbers number (now (a .entry)) (now (b .entry)) (now (c .entry)) ⌝ }
+    ensures texts { λ r. ⌜ now (result .exit) ≡ overwrite 0 (now (a .entry) ++ (now (b .entry) ++ now (c .entry))) (now (result .entry)) ⌝ }
+{
+    put_texts(result, a, b, c);
+    Ending {
+        number,
+        first: a.len(),
+        second: b.len(),
+        third: c.len(),
+    }
+}
+
+// LOAD_AS_FILE, step 1: a file is found.
+fn try_file<'a>(
+    l: &[u8],
+    path: &[u8],
+    query: &'a [u8],
+    fragment: &'a [u8],
+    result: &mut [u8],
+    nums: &mut [u32],
+    text: &mut [u8],
+    m: Mark,
+) -> Out
+    ensures { λ r. ⌜ ((G : Settings) → Done (seenBy G (now (l .entry))) (tryFile G (place (now (path .entry)) (now (query .entry)) (now (fragment .entry)))) (tapeOf (now (result .entry)) (now (nums .entry)) (now (text .entry)) m) (tapeOf (now (result .exit)) (now (nums .exit)) (now (text .exit)) (r .mark)) (stepOf (r .way))) ⌝ }
+{
+    let asked = consult(l, path, nums, text, m);
+    let mark = asked.mark;
+    if asked.state != 2 {
+        return Out {
+            way: Way::Next,
+            mark,
+        };
+    }
+    Out {
+        way: Way::Stopped(finish(0, path, query, fragment, result)),
+        mark,
     }
 }
