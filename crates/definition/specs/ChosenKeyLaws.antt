@@ -1,4 +1,4 @@
--- Order independence: whatever PACKAGE_EXPORTS_RESOLVE takes from a map of subpath keys is the same in every order of the members.
+-- THE SEARCH FOR THE BEST KEY takes the greatest by a number, and so the same in every order of the members. The theorem: ChosenKey.
 use mathlib.Core.Path.{_≡_, refl, sym, _∙_, ap, subst}
 use Prim.Native.Nat.{ℕ, zero, suc, _+_, _≤_, _<_}
 use native.Mathlib.Omega.{arith}
@@ -17,20 +17,20 @@ use Rattle.definition.specs.FoldLaws.{mem-perm, fold, fold-perm, greater
 abbrev pub Functional : List Entry → Type 0
 Functional es = (e f : Entry) → List·Memᴰ e es → List·Memᴰ f es → e .key ≡ f .key → e ≡ f
 
-score : List ℕ → Option Entry → ℕ
+unfoldable pub score : List ℕ → Option Entry → ℕ
 score mk none = 0
 score mk (some e) = suc (rank mk (e .key))
 
 -- the step of the choice, by the score
-byScore : List ℕ → Option Entry → Entry → Option Entry
+unfoldable pub byScore : List ℕ → Option Entry → Entry → Option Entry
 byScore mk b e = if matches mk (e .key) then greater (score mk) b (some e) else b
 
 module _ (mk : List ℕ) (es : List Entry) (functional : Functional es) where
-  Best : Option Entry → Type 0
+  unfoldable pub Best : Option Entry → Type 0
   Best none = Unit {0}
   Best (some e) = List·Memᴰ e es × (matches mk (e .key) ≡ true)
 
-  keeps : (b : Option Entry) (e : Entry) → Best b → List·Memᴰ e es → Best (better mk b e)
+  pub keeps : (b : Option Entry) (e : Entry) → Best b → List·Memᴰ e es → Best (better mk b e)
   unfolding better Best
   keeps b e i m = go (matches mk (e .key)) refl (isGt (PATTERN-KEY-COMPARE (bestKey b) (e .key)))
     where
@@ -44,7 +44,7 @@ module _ (mk : List ℕ) (es : List Entry) (functional : Functional es) where
   unfolding score
   same-best e f m n p q h = ap some (functional e f m n (rank-inj mk (e .key) (f .key) p q (omega arith)))
 
-  better-is : (b : Option Entry) (e : Entry) → Best b → List·Memᴰ e es → better mk b e ≡ byScore mk b e
+  pub better-is : (b : Option Entry) (e : Entry) → Best b → List·Memᴰ e es → better mk b e ≡ byScore mk b e
   unfolding better byScore greater score bestKey PATTERN-KEY-COMPARE isGt Best
   better-is none e i m = go (matches mk (e .key))
     where

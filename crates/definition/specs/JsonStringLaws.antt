@@ -45,6 +45,7 @@ use Rattle.definition.specs.Json.{
   string,
 }
 use Rattle.definition.specs.Local.{no-got, Both, andThen-both}
+use Rattle.definition.specs.JsonEndLaws.{Ends, gets, stops, ends-same, ends-map}
 use Rattle.definition.specs.JsonLocal.{or-elim}
 use Rattle.definition.specs.JsonGrammar as G
 use Rattle.definition.specs.JsonGrammar.{
@@ -414,3 +415,217 @@ unfolding Tail
 chars-sound room s t r e =
     let d : Decoded between room s t r = string-sound room between s t r e in
     record { text = d .text; cut = d .cut; chars = d .tail; fits = d .fits }
+
+-- COMPLETE. The automaton from a place, on bytes that decode to t and leave r, whatever the room
+record Reads (p : Place) (s t r : Text) : Type 0 where
+  ends : (room : ℕ) → Ends (string room p s) t r (length t ≤ room)
+
+reads-close : (s : Text) → Reads between (34 ∷ s) [] s
+unfolding string goOn step plainByte
+reads-close s = record { ends = λ room. gets s refl refl }
+
+-- one byte
+reads-byte : {p : Place} {b : ℕ} {out : Text} {q : Place} {s t r : Text} → step p b ≡ gives out q → Reads q s t r → Reads p (b ∷ s) (out ++ t) r
+unfolding string goOn
+reads-byte {p} {b} {out} {q} {s} {t} {r} e k = record { ends = λ room. go room (leb (length out) room) refl }
+  where
+    go : (room : ℕ) (u : Bool) → leb (length out) room ≡ u → Ends (string room p (b ∷ s)) (out ++ t) r (length (out ++ t) ≤ room)
+    go room true h = ends-same (rw (e, h)) (ends-map (λ x. out ++ x) (λ l. omega (arith, length-append out t)) (k .ends (room - length out)))
+    go room false h =
+        stops beyond (rw (e, h)) (λ x. let z : _≡_ {A = ℕ} 0 1 = cc in omega arith) (λ l. omega (arith, length-append out t, leb-false (length out) room h))
+
+-- a byte of a sequence
+tail-byte : (lo hi b : ℕ) → lo ≤ b → b ≤ hi → step (sequence 1 lo hi) b ≡ gives (b ∷ []) between
+unfolding step sequenceByte
+tail-byte lo hi b p q = rw (within-yes lo hi b p q)
+
+tail-byte-on : (n lo hi b : ℕ) → lo ≤ b → b ≤ hi → step (sequence (suc (suc n)) lo hi) b ≡ gives (b ∷ []) (sequence (suc n) 128 191)
+unfolding step sequenceByte
+tail-byte-on n lo hi b p q = rw (within-yes lo hi b p q)
+
+unescaped-is : {c : ℕ} → G.unescaped c → (32 ≤ c) × (c ≡ 34 → ⊥) × (c ≡ 92 → ⊥)
+unescaped-is (up-to-quotation-mark p q) = (omega arith, omega arith, omega arith)
+unescaped-is (up-to-backslash p q) = (omega arith, omega arith, omega arith)
+unescaped-is (behind-backslash p q) = (omega arith, omega arith, omega arith)
+
+-- the first byte of a character that is not escaped
+module _ (b : ℕ) where
+  lead-1 : 32 ≤ b → (b ≡ 34 → ⊥) → (b ≡ 92 → ⊥) → b < 128 → step between b ≡ gives (b ∷ []) between
+  unfolding step plainByte
+  lead-1 p q r s = rw (le-ltb b 32 p, ne-eqb b 34 q, ne-eqb b 92 r, lt-ltb b 128 s)
+
+  -- beyond ASCII
+  beyond-ascii : 128 ≤ b → {w : Step}
+      → (if within 194 223 b then gives (b ∷ []) (sequence 1 128 191) else
+      if eqb b 224 then gives (b ∷ []) (sequence 2 160 191) else
+      if eqb b 237 then gives (b ∷ []) (sequence 2 128 159) else
+      if within 225 239 b then gives (b ∷ []) (sequence 2 128 191) else
+      if eqb b 240 then gives (b ∷ []) (sequence 3 144 191) else
+      if within 241 243 b then gives (b ∷ []) (sequence 3 128 191) else
+      if eqb b 244 then gives (b ∷ []) (sequence 3 128 143) else bad) ≡ w → step between b ≡ w
+  unfolding step plainByte
+  beyond-ascii p e = rw (le-ltb b 32 (omega arith), ne-eqb b 34 (omega arith), ne-eqb b 92 (omega arith), le-ltb b 128 p) e
+
+  lead-2 : 194 ≤ b → b ≤ 223 → step between b ≡ gives (b ∷ []) (sequence 1 128 191)
+  lead-2 p q = beyond-ascii (omega arith) (rw (within-yes 194 223 b p q))
+
+  lead-3-low : b ≡ 224 → step between b ≡ gives (b ∷ []) (sequence 2 160 191)
+  lead-3-low e = beyond-ascii (omega arith) (rw (within-high 194 223 b (omega arith), eq-eqb b 224 e))
+
+  lead-3-high : b ≡ 237 → step between b ≡ gives (b ∷ []) (sequence 2 128 159)
+  lead-3-high e = beyond-ascii (omega arith) (rw (within-high 194 223 b (omega arith), ne-eqb b 224 (omega arith), eq-eqb b 237 e))
+
+  lead-3 : 225 ≤ b → b ≤ 239 → (b ≡ 237 → ⊥) → step between b ≡ gives (b ∷ []) (sequence 2 128 191)
+  lead-3 p q n = beyond-ascii (omega arith) (rw (within-high 194 223 b (omega arith), ne-eqb b 224 (omega arith), ne-eqb b 237 n, within-yes 225 239 b p q))
+
+  module _ (p : 240 ≤ b) {w : Step} where
+    four-of-them : (if eqb b 240 then gives (b ∷ []) (sequence 3 144 191) else
+        if within 241 243 b then gives (b ∷ []) (sequence 3 128 191) else
+        if eqb b 244 then gives (b ∷ []) (sequence 3 128 143) else bad) ≡ w → step between b ≡ w
+    four-of-them e =
+        beyond-ascii (omega arith)
+        (rw (within-high 194 223 b (omega arith), ne-eqb b 224 (omega arith), ne-eqb b 237 (omega arith), within-high 225 239 b (omega arith)) e)
+
+  lead-4-low : b ≡ 240 → step between b ≡ gives (b ∷ []) (sequence 3 144 191)
+  lead-4-low e = four-of-them (omega arith) (rw (eq-eqb b 240 e))
+
+  lead-4 : 241 ≤ b → b ≤ 243 → step between b ≡ gives (b ∷ []) (sequence 3 128 191)
+  lead-4 p q = four-of-them (omega arith) (rw (ne-eqb b 240 (omega arith), within-yes 241 243 b p q))
+
+  lead-4-high : b ≡ 244 → step between b ≡ gives (b ∷ []) (sequence 3 128 143)
+  lead-4-high e = four-of-them (omega arith) (rw (ne-eqb b 240 (omega arith), within-high 241 243 b (omega arith), eq-eqb b 244 e))
+
+plain-reads : {c : ℕ} {s z y r : Text} → G.unescaped c → G.UTF8 c s → Reads between z y r → Reads between (s ++ z) (s ++ y) r
+plain-reads u (UTF8-1 w h) k = reads-byte (lead-1 w (unescaped-is u .0) (unescaped-is u .1) (unescaped-is u .2) (omega arith)) k
+plain-reads u (UTF8-2 z w c h e l m) k =
+    reads-byte (lead-2 (0xc0 + z) (omega arith) (omega arith)) (reads-byte (tail-byte 128 191 (0x80 + w) (omega arith) (omega arith)) k)
+plain-reads {z = s} {y = t} {r} u (UTF8-3 y z w c hz hw e l m n) k =
+    by-test (eqb y 0)
+    (λ h. let i : y ≡ 0 = eqb-true _ _ h in three (lead-3-low (0xe0 + y) (omega arith)) (omega arith) (omega arith)) λ h.
+    let i : y ≡ 0 → ⊥ = eqb-false _ _ h in
+    by-test (eqb y 13)
+    (λ h. let j : y ≡ 13 = eqb-true _ _ h in three (lead-3-high (0xe0 + y) (omega arith)) (omega arith) (high j (ltb z 32) refl)) λ h.
+    let j : y ≡ 13 → ⊥ = eqb-false _ _ h in
+    three (lead-3 (0xe0 + y) (omega arith) (omega arith) (omega arith)) (omega arith) (omega arith)
+  where
+    three : {lo hi : ℕ} → step between (0xe0 + y) ≡ gives ((0xe0 + y) ∷ []) (sequence 2 lo hi) → lo ≤ 0x80 + z → 0x80 + z ≤ hi
+        → Reads between ((0xe0 + y) ∷ (0x80 + z) ∷ (0x80 + w) ∷ s) ((0xe0 + y) ∷ (0x80 + z) ∷ (0x80 + w) ∷ t) r
+    three {lo} {hi} f p q =
+        reads-byte f (reads-byte (tail-byte-on 0 lo hi (0x80 + z) p q) (reads-byte (tail-byte 128 191 (0x80 + w) (omega arith) (omega arith)) k))
+
+    high : y ≡ 13 → (t : Bool) → ltb z 32 ≡ t → 0x80 + z ≤ 159
+    high j true t = omega (arith, ltb-true z 32 t)
+    high j false t = absurd (n (omega (arith, ltb-false z 32 t)) (omega arith))
+plain-reads {z = s} {y = t} {r} u (UTF8-4 x y z w c hy hz hw e l m) k =
+    by-test (eqb x 0)
+    (λ h. let i : x ≡ 0 = eqb-true _ _ h in last (lead-4-low (0xf0 + x) (omega arith)) (omega arith) (omega arith)) λ h.
+    let i : x ≡ 0 → ⊥ = eqb-false _ _ h in
+    by-test (eqb x 4)
+    (λ h. let j : x ≡ 4 = eqb-true _ _ h in last (lead-4-high (0xf0 + x) (omega arith)) (omega arith) (omega arith)) λ h.
+    let j : x ≡ 4 → ⊥ = eqb-false _ _ h in
+    last (lead-4 (0xf0 + x) (omega arith) (omega arith)) (omega arith) (omega arith)
+  where
+    last : {lo hi : ℕ} → step between (0xf0 + x) ≡ gives ((0xf0 + x) ∷ []) (sequence 3 lo hi) → lo ≤ 0x80 + y → 0x80 + y ≤ hi
+        → Reads between ((0xf0 + x) ∷ (0x80 + y) ∷ (0x80 + z) ∷ (0x80 + w) ∷ s) ((0xf0 + x) ∷ (0x80 + y) ∷ (0x80 + z) ∷ (0x80 + w) ∷ t) r
+    last {lo} {hi} f p q =
+        reads-byte f (reads-byte (tail-byte-on 1 lo hi (0x80 + y) p q)
+        (reads-byte (tail-byte-on 0 128 191 (0x80 + z) (omega arith) (omega arith)) (reads-byte (tail-byte 128 191 (0x80 + w) (omega arith) (omega arith)) k)))
+
+-- a hexadecimal digit
+hex-value : {b d : ℕ} → G.HEXDIG b d → hexDigit b ≡ some d
+unfolding hexDigit isDigit
+hex-value (decimal n h) =
+    let e : 0x30 + n - 48 ≡ n = omega arith in
+    rw (within-yes 48 57 (0x30 + n) (omega arith) (omega arith), e)
+hex-value (upper-case n h) =
+    let e : 0x41 + n - 55 ≡ 10 + n = omega arith in
+    rw (within-high 48 57 (0x41 + n) (omega arith), within-yes 65 70 (0x41 + n) (omega arith) (omega arith), e)
+hex-value (lower-case n h) =
+    let e : 0x61 + n - 87 ≡ 10 + n = omega arith in
+    rw (within-high 48 57 (0x61 + n) (omega arith), within-high 65 70 (0x61 + n) (omega arith), within-yes 97 102 (0x61 + n) (omega arith) (omega arith), e)
+
+module _ {b d : ℕ} (k : G.HEXDIG b d) where
+  hex-byte : (n v : ℕ) → step (hex (suc (suc n)) v) b ≡ gives [] (hex (suc n) (v * 16 + d))
+  unfolding step hexByte
+  hex-byte n v = rw (hex-value k)
+
+  last-hex-byte : (v : ℕ) → step (hex 1 v) b ≡ unit (v * 16 + d)
+  unfolding step hexByte
+  last-hex-byte v = rw (hex-value k)
+
+  second-hex-byte : (high n v : ℕ) → step (secondHex high (suc (suc n)) v) b ≡ gives [] (secondHex high (suc n) (v * 16 + d))
+  unfolding step secondHexByte
+  second-hex-byte high n v = rw (hex-value k)
+
+  last-second-hex-byte : (high v : ℕ) → step (secondHex high 1 v) b ≡ pair high (v * 16 + d)
+  unfolding step secondHexByte
+  last-second-hex-byte high v = rw (hex-value k)
+
+-- four digits
+hex-reads : {s z t r out : Text} {q : Place} {n : ℕ} → G.4HEXDIG s n → unit n ≡ gives out q → Reads q z t r → Reads (hex 4 0) (s ++ z) (out ++ t) r
+hex-reads (four {p = p} {q = q} {r = r} {s = s} a b c d) u k =
+    let e : (((0 * 16 + p) * 16 + q) * 16 + r) * 16 + s ≡ p * 0x1000 + q * 0x100 + r * 0x10 + s = omega arith in
+    reads-byte (hex-byte a 2 0) (reads-byte (hex-byte b 1 _) (reads-byte (hex-byte c 0 _) (reads-byte (last-hex-byte d _ ∙ ap unit e ∙ u) k)))
+
+second-hex-reads : {s z t r out : Text} {q : Place} {n : ℕ} (high : ℕ) → G.4HEXDIG s n → pair high n ≡ gives out q → Reads q z t r
+    → Reads (secondHex high 4 0) (s ++ z) (out ++ t) r
+second-hex-reads high (four {p = p} {q = q} {r = r} {s = s} a b c d) u k =
+    let e : (((0 * 16 + p) * 16 + q) * 16 + r) * 16 + s ≡ p * 0x1000 + q * 0x100 + r * 0x10 + s = omega arith in
+    reads-byte (second-hex-byte a high 2 0) (reads-byte (second-hex-byte b high 1 _) (reads-byte (second-hex-byte c high 0 _)
+    (reads-byte (last-second-hex-byte d high _ ∙ ap (pair high) e ∙ u) k)))
+
+backslash : step between 92 ≡ gives [] escape
+unfolding step plainByte
+backslash = refl
+
+escape-reads : {b : ℕ} {out z t r : Text} {q : Place} → escapeByte b ≡ gives out q → Reads q z t r → Reads between (92 ∷ b ∷ z) (out ++ t) r
+unfolding step
+escape-reads e k = reads-byte backslash (reads-byte {p = escape} e k)
+
+unit-alone : {n : ℕ} {t : Text} → G.UTF8 n t → unit n ≡ gives t between
+unfolding unit
+unit-alone {n} k =
+    let p : within 0xd800 0xdbff n ≡ false = outside 0xd800 0xdbff (λ l h. no-surrogate k l (omega arith)) in
+    let q : within 0xdc00 0xdfff n ≡ false = outside 0xdc00 0xdfff (λ l h. no-surrogate k (omega arith) h) in
+    rw (p, q, utf8-bytes k)
+  where
+    outside : (a z : ℕ) → (a ≤ n → n ≤ z → ⊥) → within a z n ≡ false
+    outside a z f = by-test (within a z n) (λ h. absurd (f (within-true a z n h .0) (within-true a z n h .1))) (λ h. h)
+
+unit-high : (h : ℕ) → h ≤ 0x3ff → unit (0xd800 + h) ≡ gives [] (secondEscape (0xd800 + h))
+unfolding unit
+unit-high h p = rw (within-yes 0xd800 0xdbff (0xd800 + h) (omega arith) (omega arith))
+
+pair-of : {n : ℕ} {t : Text} (h l : ℕ) → l ≤ 0x3ff → n ≡ 0x10000 + h * 0x400 + l → G.UTF8 n t → pair (0xd800 + h) (0xdc00 + l) ≡ gives t between
+unfolding pair
+pair-of {n} h l p e k =
+    let f : 0x10000 + (0xd800 + h - 0xd800) * 0x400 + (0xdc00 + l - 0xdc00) ≡ n = omega arith in
+    rw (within-yes 0xdc00 0xdfff (0xdc00 + l) (omega arith) (omega arith), f, utf8-bytes k)
+
+second-reads : {high : ℕ} {z t r : Text} → Reads (secondHex high 4 0) z t r → Reads (secondEscape high) (92 ∷ 117 ∷ z) t r
+unfolding step
+second-reads {high} k = reads-byte {p = secondEscape high} {out = []} refl (reads-byte {p = secondU high} {out = []} refl k)
+
+char-reads : {x u z t r : Text} → G.char x u → Reads between z t r → Reads between (x ++ z) (u ++ t) r
+unfolding escapeByte
+char-reads (plain u k) c = plain-reads u k c
+char-reads quotation-mark c = escape-reads {b = 34} refl c
+char-reads reverse-solidus c = escape-reads {b = 92} refl c
+char-reads solidus c = escape-reads {b = 47} refl c
+char-reads b-backspace c = escape-reads {b = 98} refl c
+char-reads f-form-feed c = escape-reads {b = 102} refl c
+char-reads n-line-feed c = escape-reads {b = 110} refl c
+char-reads r-carriage-return c = escape-reads {b = 114} refl c
+char-reads t-tab c = escape-reads {b = 116} refl c
+char-reads (u-number f k) c = escape-reads {b = 117} {out = []} refl (hex-reads f (unit-alone k) c)
+char-reads (u-surrogates {h = h} {l = l} {s = s} {s′ = s′} f p f′ q e k) c =
+    rw append-assoc
+    (escape-reads {b = 117} {out = []} refl (hex-reads {out = []} f (unit-high h p) (second-reads (second-hex-reads (0xd800 + h) f′ (pair-of h l q e k) c))))
+
+-- THE STRING READER IS COMPLETE
+pub chars-ends : {x t : Text} → G.chars x t → (r : Text) (room : ℕ) → Ends (string room between (x ++ 34 ∷ r)) t r (length t ≤ room)
+chars-ends cs r = all cs .ends
+  where
+    all : {x t : Text} → G.chars x t → Reads between (x ++ 34 ∷ r) t r
+    all no-char = reads-close r
+    all (and-char c cs) = rw append-assoc (char-reads c (all cs))

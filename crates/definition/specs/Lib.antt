@@ -15,6 +15,7 @@ pub mod Reordered
 -- Laws
 pub mod TextLaws
 pub mod TextSteps
+pub mod PathLaws
 pub mod PathSteps
 pub mod ListingSteps
 pub mod ListingOrder
@@ -23,10 +24,14 @@ pub mod AskLaws
 pub mod KeyOrderLaws
 pub mod FoldLaws
 pub mod ChosenKeyLaws
+pub mod ChosenKey
 pub mod ExportsOrderLaws
 pub mod Local
 pub mod JsonLocal
+pub mod JsonEndLaws
 pub mod JsonStringLaws
+pub mod JsonNumberLaws
+pub mod JsonSoundLaws
 pub mod Layout
 pub mod Laid
 pub mod SameMapLaws
@@ -41,6 +46,7 @@ pub mod LengthBound
 pub mod DepthLaws
 pub mod FoundFile
 pub mod WholeCall
+pub mod CallAgain
 pub mod ShortPaths
 pub mod DemandThree
 -- Examples, by computation

@@ -198,12 +198,12 @@ pub fn zero_from(dst: &mut [u8], at: usize)
     }
 }
 
-pub fn zero_from_u32(dst: &mut [u32], at: usize)
-    ensures { λ _. ⌜ now (dst .exit) ≡ zeroFrom at (now (dst .entry)) ⌝ }
+pub fn zero_from_u32(words: &mut [u32], at: usize)
+    ensures { λ _. ⌜ now (words .exit) ≡ zeroFrom at (now (words .entry)) ⌝ }
 {
     let mut i = at;
-    while i < dst.len() {
-        dst[i] = 0;
+    while i < words.len() {
+        words[i] = 0;
         i += 1;
     }
 }

@@ -10,10 +10,10 @@ use Rattle.text.proofs.zero_from_u32.Statement.{statement}
 use Rattle.text.proofs.zero_from_u32.Tie as tie
 
 abbrev Inv : tie.InvT-loop
-Inv dst₀ at i₀ dst i = (length dst ≡ length dst₀) × (zeroFrom i dst ≡ zeroFrom at dst₀)
+Inv words₀ at i₀ words i = (length words ≡ length words₀) × (zeroFrom i words ≡ zeroFrom at words₀)
 
 abbrev μ : tie.MeasureT-loop
-μ dst₀ at i₀ dst i = length dst₀ - i
+μ words₀ at i₀ words i = length words₀ - i
 
 pub zero-from-u32-spec : {M : Type 1} → statement M
 zero-from-u32-spec =

@@ -1,0 +1,91 @@
+-- A path in a buffer of 2,048 bytes, by its length.
+use mathlib.Core.Path.{_≡_, refl, sym, _∙_, ap}
+use Prim.Native.Nat.{ℕ, zero, suc, _+_, _-_, _≤_, _<_}
+use native.Mathlib.Omega.{arith}
+use mathlib.Core.Bool.{Bool, true, false}
+use mathlib.Core.List.{List, [], _∷_, _++_}
+use lib.ListN.{length, drop, take, getD, length-append, length-take}
+use lib.Seq.{length-take-le, take-length, take-take, getD-take, paste, take-paste}
+use lib.Dec.{leb, ltb}
+use borrow.Author.Tests.{le-leb, lt-leb, le-ltb, lt-ltb, leb-true, leb-false}
+use Rattle.definition.specs.Text.{text, slash}
+use Rattle.definition.specs.Path.{Built, built, tooLong, andPath, limited, push, parent, addExtension, addNameAndExtension}
+use Rattle.definition.specs.PathLaws.{limited-fits, limited-long, limited-append, then-append, push-empty, push-slash, push-plain}
+use Rattle.path.specs.Meaning.{pathAt, isTooLong}
+
+module _ (b : List ℕ) (n : ℕ) where
+  pub at-fits : n ≤ 2048 → pathAt b n ≡ built (take n b)
+  unfolding pathAt
+  at-fits h = rw (le-leb _ _ h)
+
+  pub at-long : 2048 < n → pathAt b n ≡ tooLong
+  unfolding pathAt
+  at-long h = rw (lt-leb _ _ h)
+
+-- `put`: what was over-long, what gets over-long, and what the loop leaves
+module _ (b : List ℕ) (n : ℕ) (t : List ℕ) (w : length b ≡ 2048) where
+  pub put-over : 2048 < n → pathAt b 2049 ≡ andPath (pathAt b n) (λ p. addExtension p t)
+  put-over h = rw (at-long b n h) (at-long b 2049 (omega arith))
+
+  module _ (h : n ≤ 2048) where
+    pub put-long : 2048 < n + length t → pathAt b 2049 ≡ andPath (pathAt b n) (λ p. addExtension p t)
+    unfolding addExtension
+    put-long g =
+        let k : length (take n b) ≡ n = length-take-le n b (omega arith) in
+        rw (at-fits b n h, limited-long (take n b ++ t) (omega (arith, length-append (take n b) t))) (at-long b 2049 (omega arith))
+
+    pub put-fits : (c : List ℕ) (i : ℕ) → n + length t ≤ 2048 → i ≡ length t → c ≡ paste b n t i → pathAt c (n + i) ≡ andPath (pathAt b n) (λ p. addExtension p t)
+    unfolding addExtension
+    put-fits c i g e f =
+        let k : length (take n b) ≡ n = length-take-le n b (omega arith) in
+        rw (at-fits b n h, limited-fits (take n b ++ t) (omega (arith, length-append (take n b) t)), f, e)
+        (at-fits (paste b n t (length t)) (n + length t) g ∙ ap built (take-paste b n t (length t) (omega arith) (omega arith) ∙ rw (take-length t)))
+
+-- `join`: at an empty path, behind a slash, and behind another byte
+module _ (b t : List ℕ) where
+  pub join-empty : (n : ℕ) → n ≡ 0 → andPath (pathAt b n) (λ p. addExtension p t) ≡ andPath (pathAt b n) (λ p. limited (push p t))
+  unfolding addExtension
+  join-empty n e = rw (e, at-fits b 0 (omega arith), push-empty t)
+
+  pub join-over : (n : ℕ) → 2048 < n → pathAt b n ≡ andPath (pathAt b n) (λ p. limited (push p t))
+  join-over n h = rw (at-long b n h)
+
+  module _ (w : length b ≡ 2048) (n : ℕ) (h : n ≡ 0 → ⊥) (k : n ≤ 2048) where
+    size : length (take n b) ≡ n
+    size = length-take-le n b (omega arith)
+
+    last : getD (take n b) (length (take n b) - 1) 0 ≡ getD b (n - 1) 0
+    last = rw size (getD-take n b (n - 1) 0 (omega arith))
+
+    some : 0 < length (take n b)
+    some = let s = size in omega arith
+
+    pub join-slash : getD b (n - 1) 0 ≡ slash → andPath (pathAt b n) (λ p. addExtension p t) ≡ andPath (pathAt b n) (λ p. limited (push p t))
+    unfolding addExtension
+    join-slash e = rw (at-fits b n k, push-slash (take n b) t some (last ∙ e))
+
+    pub join-plain : (getD b (n - 1) 0 ≡ slash → ⊥) → andPath (andPath (pathAt b n) (λ p. addExtension p (text "/"))) (λ p. addExtension p t) ≡ andPath (pathAt b n) (λ p. limited (push p t))
+    unfolding addExtension
+    join-plain e = rw (at-fits b n k, push-plain (take n b) t some (λ z. e (sym last ∙ z))) (limited-append (take n b ++ text "/") t)
+
+-- `up`
+pub up-over : (b : List ℕ) (n : ℕ) → 2048 < n → pathAt b n ≡ andPath (pathAt b n) (λ p. built (parent p))
+up-over b n h = rw (at-long b n h)
+
+pub up-parent : (b : List ℕ) (n r : ℕ) → n ≤ 2048 → r ≤ length (take n b) → parent (take n b) ≡ take r (take n b) → pathAt b r ≡ andPath (pathAt b n) (λ p. built (parent p))
+up-parent b n r h k e =
+    let l : r ≤ n = omega (arith, length-take n b) in
+    rw (at-fits b n h, e, take-take r n b l) (at-fits b r (omega arith))
+
+-- `append_main_file`: three texts, one after the other
+pub put-three : (b : Built) (name e : List ℕ) → andPath (andPath (andPath b (λ p. addExtension p (text "/"))) (λ p. addExtension p name)) (λ p. addExtension p e) ≡ andPath b (λ p. addNameAndExtension p name e)
+unfolding addExtension addNameAndExtension
+put-three b name e =
+    ap (λ x. andPath x (λ p. limited (p ++ e))) (then-append b (λ p. p ++ text "/") name) ∙ then-append b (λ p. p ++ text "/" ++ name) e
+
+pub over-is : (b : List ℕ) (n : ℕ) → ltb 2048 n ≡ isTooLong (pathAt b n)
+over-is b n = go (leb n 2048) refl
+  where
+    go : (u : Bool) → leb n 2048 ≡ u → ltb 2048 n ≡ isTooLong (pathAt b n)
+    go true h = rw (at-fits b n (leb-true _ _ h)) (le-ltb 2048 n (leb-true n 2048 h))
+    go false h = rw (at-long b n (leb-false _ _ h)) (lt-ltb 2048 n (leb-false n 2048 h))
