@@ -2,21 +2,23 @@
 use mathlib.Core.Path.{_≡_, refl, sym, _∙_, ap}
 use mathlib.Core.Bool.{Bool, true, false}
 use mathlib.Core.List.{List, [], _∷_, _++_, append-nil}
-use Prim.Native.Nat.{ℕ}
-use borrow.Author.Tests.{eq-eqb, ne-eqb}
+use Prim.Native.Nat.{ℕ, _≤_, _<_}
+use borrow.Author.Tests.{eq-eqb, ne-eqb, le-leb, lt-leb}
 use lib.Dec.{eqb}
-use lib.ListN.{length, getD}
+use lib.ListN.{length, getD, take}
 use Rattle.definition.specs.Text.{Text, overwrite}
+use Rattle.definition.specs.TextSteps.{overwrite-nil}
+use Rattle.path.specs.Meaning.{pathAt}
 use Rattle.definition.specs.Listing.{Entry, noEntry, directoryEntry, fileEntry, entryAt}
 use Rattle.definition.specs.Settings.{Settings}
 use Rattle.definition.specs.Ask.{State, absent, directory, file, Listing, Consult, Step, go, stop, Ask, ret, end, ask, read, number, stateOf, asked, seen, viewed, _>>=_, _>>_}
 use Rattle.definition.specs.AskLaws.{state-viewed}
-use Rattle.definition.specs.Manifest.{End, found, stopped, failed, refused, Place, endNumber, endTexts, view}
+use Rattle.definition.specs.Manifest.{End, found, stopped, failed, refused, Place, endNumber, endTexts, Refusal, pathTooLong, refusalNumber, view}
 use Rattle.definition.specs.Called.{seenBy, joined}
-use Rattle.definition.specs.Walk.{Look, isFile, isDir, isFileState, isDirState, when, tryFile}
+use Rattle.definition.specs.Walk.{Look, isFile, isDir, isFileState, isDirState, when, made, tryFile}
 use Rattle.resolver.specs.declared.Ending.{Ending}
 use Rattle.resolver.specs.Tape.{Tape, put, ended, endingOf, Done, done-ret, done-end, done-ask, done-bind, done-stop}
-use Rattle.resolver.specs.Meaning.{consultOf, numbers}
+use Rattle.resolver.specs.Meaning.{consultOf, numbers, place, tryPath}
 
 -- A question asked and noted
 file-state : {M : Type 0} (e : Entry M) → isFileState (stateOf e) ≡ eqb (asked e) 2
@@ -69,3 +71,20 @@ module _ (G : Settings) (L : Listing _) (w : Place) (s s₁ : Tape) (k : ℕ) (d
   pub try-found : {s₂ : Tape} {r : Step Ending (Unit {0})} → k ≡ 2 → Done L (end (found w)) s₁ s₂ r → Done L (tryFile G w) s s₂ r
   unfolding tryFile when
   try-found h f = done-bind _ (rw (eq-eqb _ _ h) at d) f
+
+-- A path that was built, or 42
+pub ends-refused : (r : Refusal) → Ends (stopped (refused r)) (refusalNumber r) [] [] []
+unfolding endingOf endNumber endTexts joined
+ends-refused r = record { ending = refl; texts = refl }
+
+pub done-refuse : {A M : Type 0} {L : Listing M} (r : Refusal) (s : Tape) → Done {A = A} L (end (stopped (refused r))) s s (stop (numbers (refusalNumber r) [] [] []))
+done-refuse r s = done-finish (ends-refused r) s s _ refl (rw (overwrite-nil 0 (s .result)))
+
+module _ (G : Settings) {L : Listing _} (bytes : Text) (n : ℕ) (q f : Text) where
+  pub path-long : (s : Tape) → 2048 < n → Done L (tryPath G (pathAt bytes n) q f) s s (stop (numbers 42 [] [] []))
+  unfolding tryPath made pathAt refusalNumber
+  path-long s h = rw (lt-leb _ _ h) (done-stop _ (done-refuse pathTooLong s))
+
+  pub path-fits : {s s′ : Tape} {r : Step Ending (Unit {0})} → n ≤ 2048 → Done L (tryFile G (place (take n bytes) q f)) s s′ r → Done L (tryPath G (pathAt bytes n) q f) s s′ r
+  unfolding tryPath made pathAt
+  path-fits h d = rw (le-leb _ _ h) (done-bind _ done-ret d)

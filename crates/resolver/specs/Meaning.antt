@@ -4,7 +4,11 @@ use Prim.Native.Nat.{ℕ}
 use lib.ListN.{length}
 use Rattle.definition.specs.Text.{Text}
 use Rattle.definition.specs.Ask.{Consult, Step, go, stop}
+use Rattle.definition.specs.Ask.{_>>=_}
+use Rattle.definition.specs.Path.{Built}
+use Rattle.definition.specs.Settings.{Settings}
 use Rattle.definition.specs.Manifest.{Place}
+use Rattle.definition.specs.Walk.{Look, made, tryFile}
 use Rattle.resolver.specs.Tape.{Tape}
 use Rattle.resolver.specs.declared.Ending.{Ending}
 use Rattle.resolver.specs.declared.Mark.{Mark}
@@ -28,3 +32,12 @@ stepOf (Stopped n) = stop n
 -- a number, and the lengths of three texts
 abbrev pub numbers : ℕ → Text → Text → Text → Ending
 numbers n a b c = record { number = n; first = length a; second = length b; third = length c }
+
+abbrev pub refusal : ℕ → Way
+refusal n = Stopped (record { number = n; first = 0; second = 0; third = 0 })
+
+-- the steps of the definition that a function of the code does together: a path that was built is tried as a file
+unfoldable pub tryPath : Settings → Built → Text → Text → Look (Unit {0})
+tryPath G b q f = do
+  p ← made b
+  tryFile G (place p q f)

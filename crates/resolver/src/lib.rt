@@ -1,4 +1,5 @@
 // The walk of lib.rs: LOAD_AS_FILE to LOAD_NODE_MODULES over a lent listing. Each consult is written to the lent list as it is made.
+use path::PathBuf;
 ghost use mathlib.Core.Path.{_≡_};
 ghost use mathlib.Core.List.{List, _++_};
 ghost use Prim.Native.Nat.{ℕ, _+_, min};
@@ -10,8 +11,9 @@ ghost use Rattle.definition.specs.Settings.{Settings};
 ghost use Rattle.definition.specs.Called.{seenBy};
 ghost use Rattle.definition.specs.Walk.{isFile, tryFile};
 ghost use Rattle.listing.specs.Meaning.{seen};
+ghost use Rattle.path.specs.Meaning.{pathOf};
 ghost use Rattle.resolver.specs.Tape.{most, packed, put, Done};
-ghost use Rattle.resolver.specs.Meaning.{tapeOf, consultOf, stepOf, place, numbers};
+ghost use Rattle.resolver.specs.Meaning.{tapeOf, consultOf, stepOf, place, numbers, refusal, tryPath};
 
 // How a lookup ended: the number of document 01, and the lengths of its texts, which stand in the result text.
 pub struct Ending {
@@ -159,4 +161,39 @@ fn try_file<'a>(
         way: Way::Stopped(finish(0, path, query, fragment, result)),
         mark,
     }
+}
+
+// The end of a lookup by a refusal, which has no text.
+fn refuse(number: u8) -> Way
+    ensures { λ r. ⌜ r ≡ refusal number ⌝ }
+{
+    Way::Stopped(Ending {
+        number,
+        first: 0,
+        second: 0,
+        third: 0,
+    })
+}
+
+// A path that was built is tried as a file; an over-long one is refused as 42.
+fn try_path<'a>(
+    l: &[u8],
+    p: PathBuf,
+    query: &'a [u8],
+    fragment: &'a [u8],
+    result: &mut [u8],
+    nums: &mut [u32],
+    text: &mut [u8],
+    m: Mark,
+) -> Out
+    ensures { λ r. ⌜ ((G : Settings) → Done (seenBy G (now (l .entry))) (tryPath G (pathOf p) (now (query .entry)) (now (fragment .entry))) (tapeOf (now (result .entry)) (now (nums .entry)) (now (text .entry)) m) (tapeOf (now (result .exit)) (now (nums .exit)) (now (text .exit)) (r .mark)) (stepOf (r .way))) ⌝ }
+{
+    let n = p.len;
+    if n > 2048 {
+        return Out {
+            way: refuse(42),
+            mark: m,
+        };
+    }
+    try_file(l, path::first(&p.bytes, n), query, fragment, result, nums, text, m)
 }
