@@ -157,7 +157,7 @@ module _ (L : Listing Sees) (G : Settings) where
   proper-nearest : (ds : List Text) → Proper L (nearest G ds)
   unfolding nearest
   proper-nearest [] = proper-ret
-  proper-nearest (d ∷ ds) = proper-read (proper-orAbove d (nearest G ds) _ (proper-nearest ds))
+  proper-nearest (d ∷ ds) = proper-bind (proper-made _) (λ p. proper-read (proper-orAbove d (nearest G ds) _ (proper-nearest ds)))
 
   proper-own : (d : Text) → Proper L (own G d)
   unfolding own

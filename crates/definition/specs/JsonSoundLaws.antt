@@ -114,9 +114,11 @@ new-distinct no-names = (none-twice, λ k e. from-none)
 new-distinct {names} (new-name {k = k} e n) = go (new-distinct n)
   where
     go : {j : Json} {ms : Members} → Distinct ms × Apart (k ∷ names) ms → Distinct (member k j ms) × Apart names (member k j ms)
-    go h =
-        (once (h .1 k (rw (equal-refl k))) (h .0), λ i f.
-        from-more (λ p. true≢false (sym f ∙ ap (isOneOf names) p ∙ e)) (h .1 i (rw f (or-true (equal k i)))))
+    go h = (
+      once (h .1 k (rw (equal-refl k))) (h .0),
+      λ i f.
+          from-more (λ p. true≢false (sym f ∙ ap (isOneOf names) p ∙ e)) (h .1 i (rw f (or-true (equal k i)))),
+    )
       where
         or-true : (b : Bool) → b || true ≡ true
         or-true true = refl

@@ -52,7 +52,7 @@ module _ (L : Listing (Step Fault Manifest)) (G : Settings) where
   most-nearest : (ds : List Text) → AtMost L (length ds) (nearest G ds)
   unfolding nearest
   most-nearest [] = most-ret
-  most-nearest (d ∷ ds) = most-read (most-orAbove d (nearest G ds) (length ds) _ (most-nearest ds))
+  most-nearest (d ∷ ds) = most-up (most-bind (most-made L _) (λ p e. most-read (most-orAbove d (nearest G ds) (length ds) _ (most-nearest ds)))) (omega arith)
 
   most-own : (d : Text) → AtMost L (length (dirs d)) (own G d)
   unfolding own

@@ -32,6 +32,8 @@ pub mod JsonEndLaws
 pub mod JsonStringLaws
 pub mod JsonNumberLaws
 pub mod JsonSoundLaws
+pub mod JsonCompleteLaws
+pub mod JsonGrammarLaws
 pub mod Layout
 pub mod Laid
 pub mod SameMapLaws
@@ -51,6 +53,7 @@ pub mod ShortPaths
 pub mod DemandThree
 -- Examples, by computation
 pub mod Examples
+pub mod JsonExamples
 pub mod ExportsTests
 pub mod ReorderedExample
 pub mod PrintedExample

@@ -11,11 +11,11 @@ use lib.Dec.{leb}
 use borrow.Author.Tests.{leb-true}
 use Rattle.definition.specs.Text.{text, equal, startsWith, endsWith, count, slash, all, if_then_else_, Text}
 use Rattle.definition.specs.TextLaws.{and-true, equal-true}
-use Rattle.definition.specs.Path.{Built, built, tooLong, normalizeWith, addExtension, addNameAndExtension, manifestOf, parent, dirs}
+use Rattle.definition.specs.Path.{Built, built, tooLong, limited, normalizeWith, addExtension, addNameAndExtension, manifestOf, parent, dirs}
 use Rattle.definition.specs.Specifier.{packageName, packageSubpath, climbing, dotSubpath}
 use Rattle.definition.specs.Json.{Json, Read, got, Fault, malformed, beyond, twice, fault, parse}
 use Rattle.definition.specs.Exports.{Context, Outcome, PACKAGE-EXPORTS-RESOLVE}
-use Rattle.definition.specs.FitLaws.{Fit, BuiltFits, normalizeWith-fits, addExtension-fits, addNameAndExtension-fits, OutcomeFits, exports-fit, parent-short, AllAtMost, dirs-short, manifest-short}
+use Rattle.definition.specs.FitLaws.{Fit, BuiltFits, limited-fits, normalizeWith-fits, addExtension-fits, addNameAndExtension-fits, OutcomeFits, exports-fit, parent-short, AllAtMost, dirs-short}
 use Rattle.definition.specs.Listing.{Entry, noEntry, directoryEntry, fileEntry, Row, rows, entryOf, entryIn, entryAt, rowFits, isManifest, sizesFit, passes30, passes31, isDirectoryOf, accepted}
 use Rattle.definition.specs.Ask.{State, absent, directory, file, Listing, Consult, Step, go, stop, Ask, ret, end, ask, read, stateOf, contentsOf, asked, opened, answer, log, _>>=_, _>>_, seen, viewed}
 use Rattle.definition.specs.Settings.{Settings, settingsOf, passes24}
@@ -173,7 +173,7 @@ module _ (L : Listing Sees) (G : Settings) (sees : (p : Text) (m : Manifest) →
   short-nearest : (ds : List Text) → AllAtMost 1024 ds → Short L (nearest G ds)
   unfolding nearest
   short-nearest [] b = short-ret
-  short-nearest (d ∷ ds) b = short-read (let z = manifest-short d in let y = b .0 in omega arith) (short-orAbove d (nearest G ds) _ (short-nearest ds (b .1)))
+  short-nearest (d ∷ ds) b = short-bind (short-made _) (λ p e. short-read (made-fits L (limited (manifestOf d)) (limited-fits (manifestOf d)) p e) (short-orAbove d (nearest G ds) _ (short-nearest ds (b .1))))
 
   good-orAbove : (d : Text) (above : Look (Option Scope)) (p : Text) (o : Option Sees) → contentsOf (L p) ≡ o → length d ≤ 1024 → ((r : Option Scope) → answer L above ≡ go r → Good r)
       → (r : Option Scope) → answer L (orAbove G d above o) ≡ go r → Good r
@@ -187,9 +187,13 @@ module _ (L : Listing Sees) (G : Settings) (sees : (p : Text) (m : Manifest) →
   good-orAbove d above p (some (stop twice)) c h f r e = no-go L e
 
   good-nearest : (ds : List Text) → AllAtMost 1024 ds → (r : Option Scope) → answer L (nearest G ds) ≡ go r → Good r
-  unfolding nearest answer
+  unfolding nearest answer made _>>=_
   good-nearest [] b r e = let x : none ≡ r = cc in record { scope = λ s y. absurd (let z : _≡_ {A = ℕ} 0 1 = cc in omega arith) }
-  good-nearest (d ∷ ds) b r e = good-orAbove d (nearest G ds) (manifestOf d) (contentsOf (L (manifestOf d))) refl (b .0) (good-nearest ds (b .1)) r e
+  good-nearest (d ∷ ds) b r e = by (limited (manifestOf d)) (good-nearest ds (b .1)) e
+    where
+      by : (p : Built) → ((r : Option Scope) → answer L (nearest G ds) ≡ go r → Good r) → answer L (made p >>= λ q. read q (orAbove G d (nearest G ds))) ≡ go r → Good r
+      by (built q) f e = good-orAbove d (nearest G ds) q (contentsOf (L q)) refl (b .0) f r e
+      by tooLong f e = no-go L e
 
   dirs-low : (d : Text) → length d ≤ 1024 → AllAtMost 1024 (dirs d)
   dirs-low d h = dirs-short 1024 d h (omega arith)

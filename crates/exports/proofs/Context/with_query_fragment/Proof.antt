@@ -1,0 +1,13 @@
+use borrow.Author.Needs.{needs}
+use Rattle.exports.specs.Contexts.{contextOf}
+use Rattle.exports.proofs.Contexts.{both}
+use Rattle.exports.proofs.Context.with_query_fragment.Statement.{statement}
+use Rattle.exports.proofs.Context.with_query_fragment.Tie as tie
+
+pub with-query-fragment-spec : {M : Type 1} → statement M
+with-query-fragment-spec =
+    tie.close
+    (tie.spec
+    (λ c κs. search needs)
+    (λ c κs. search needs)
+    (λ c. both _ _ (contextOf (c .before .before .before .before .before .before .args .t1)) _ _ (c .before .before .put .ensures) (c .put2 .ensures)))

@@ -1,0 +1,205 @@
+// The exports algorithms of the Node.js documents, as lib.rs has them.
+ghost use mathlib.Core.Path.{_≡_};
+ghost use mathlib.Core.List.{List, []};
+ghost use Prim.Native.Nat.{ℕ, _+_, _-_, _≤_, _<_, suc};
+ghost use lib.ListN.{length, drop, take};
+ghost use mathlib.Core.Bool.{_&&_, _||_};
+ghost use lib.Dec.{leb};
+ghost use Rattle.definition.specs.Text.{equal, endsWith};
+ghost use Rattle.definition.specs.Exports.{patternKeyCompare, isSubpathKey, starMatch, patternMatch, orOld, withQueryFragment};
+ghost use Rattle.exports.specs.Keys.{rankOf, orderOf, matchOf};
+ghost use Rattle.exports.specs.Contexts.{contextOf};
+
+pub enum Order {
+    Less,
+    Equal,
+    Greater,
+}
+
+// What the order of two keys depends on: the bytes up to the first star (all where there is none), and their number.
+pub struct Rank {
+    base: usize,
+    starred: bool,
+    len: usize,
+}
+
+fn rank_of(key: &[u8]) -> Rank
+    ensures { λ r. ⌜ r ≡ rankOf (now (key .entry)) ⌝ }
+{
+    let len = key.len();
+    let base = text::find(key, b'*', 0);
+    if base < len {
+        return Rank {
+            base: base + 1,
+            starred: true,
+            len,
+        };
+    }
+    Rank {
+        base: len,
+        starred: false,
+        len,
+    }
+}
+
+// The longer base comes first, then a pattern, then the longer key. The empty key comes behind every other.
+fn compare(a: Rank, b: Rank) -> Order
+    ensures { λ r. ⌜ ((k l : List ℕ) → a ≡ rankOf k → b ≡ rankOf l → orderOf r ≡ patternKeyCompare k l) ⌝ }
+{
+    if a.base > b.base {
+        return Order::Less;
+    }
+    if a.base < b.base {
+        return Order::Greater;
+    }
+    if !a.starred {
+        return Order::Greater;
+    }
+    if !b.starred {
+        return Order::Less;
+    }
+    if a.len > b.len {
+        return Order::Less;
+    }
+    if a.len < b.len {
+        return Order::Greater;
+    }
+    Order::Equal
+}
+
+pub fn pattern_key_compare(a: &[u8], b: &[u8]) -> Order
+    ensures { λ r. ⌜ orderOf r ≡ patternKeyCompare (now (a .entry)) (now (b .entry)) ⌝ }
+{
+    compare(rank_of(a), rank_of(b))
+}
+
+// The part of the match key that a pattern key, or a folder key, leaves over.
+pub enum Match {
+    Part { start: usize, len: usize },
+    Nothing,
+}
+
+fn is_subpath_key(key: &[u8]) -> bool
+    ensures { λ r. ⌜ r ≡ isSubpathKey (now (key .entry)) ⌝ }
+{
+    if text::starts_with(key, b"./") {
+        return true;
+    }
+    text::starts_with(key, b"#")
+}
+
+// Whether the match key has room for the whole key and ends with the trailer; an empty trailer asks nothing.
+fn trailer_fits(match_key: &[u8], key: &[u8], trailer: &[u8]) -> bool
+    ensures { λ r. ⌜ r ≡ (equal (now (trailer .entry)) [] || (leb (length (now (key .entry))) (length (now («match_key» .entry))) && endsWith (now (trailer .entry)) (now («match_key» .entry)))) ⌝ }
+{
+    if trailer.len() == 0 {
+        return true;
+    }
+    if match_key.len() < key.len() {
+        return false;
+    }
+    text::ends_with(match_key, trailer)
+}
+
+// A pattern key, by what stands before and behind its first star.
+fn star_match(match_key: &[u8], key: &[u8], base: &[u8], trailer: &[u8]) -> Match
+    requires { ⌜ length (now key) ≡ suc (length (now base) + length (now trailer)) ⌝ }
+    ensures { λ r. ⌜ matchOf (now («match_key» .entry)) r ≡ starMatch (now («match_key» .entry)) (now (key .entry)) (now (base .entry)) (now (trailer .entry)) ⌝ }
+{
+    if !text::starts_with(match_key, base) {
+        return Match::Nothing;
+    }
+    if text::contains(trailer, b'*') {
+        return Match::Nothing;
+    }
+    if !trailer_fits(match_key, key, trailer) {
+        return Match::Nothing;
+    }
+    Match::Part {
+        start: base.len(),
+        len: match_key.len() - base.len() - trailer.len(),
+    }
+}
+
+pub fn pattern_match(match_key: &[u8], key: &[u8]) -> Match
+    ensures { λ r. ⌜ matchOf (now («match_key» .entry)) r ≡ patternMatch (now («match_key» .entry)) (now (key .entry)) ⌝ }
+{
+    if !is_subpath_key(key) {
+        return Match::Nothing;
+    }
+    let star = text::find(key, b'*', 0);
+    if star < key.len() {
+        return star_match(match_key, key, &key[0..star], &key[star + 1..]);
+    }
+    if !text::ends_with(key, b"/") {
+        return Match::Nothing;
+    }
+    if !text::starts_with(match_key, key) {
+        return Match::Nothing;
+    }
+    Match::Part {
+        start: key.len(),
+        len: match_key.len() - key.len(),
+    }
+}
+
+// A part of a text, as far as the text reaches.
+pub fn part(s: &[u8], start: usize, len: usize) -> &[u8]
+    ensures { λ r. ⌜ now r ≡ take len (drop start (now (s .entry))) ⌝ }
+{
+    if start >= s.len() {
+        return &s[0..0];
+    }
+    if len >= s.len() - start {
+        return &s[start..];
+    }
+    let end = start + len;
+    &s[start..end]
+}
+
+// context.rs: the query and the fragment so far.
+pub struct Context {
+    pub query: [u8; 1024],
+    pub qlen: usize,
+    pub fragment: [u8; 1024],
+    pub flen: usize,
+}
+
+// Puts a text at the start, as far as there is room; an empty one leaves the first n bytes.
+fn put(b: &mut [u8; 1024], n: usize, t: &[u8]) -> usize
+    requires { ⌜ length (now b) ≡ 1024 ⌝ }
+    ensures { λ r. ⌜ take r (now (b .exit)) ≡ orOld (take 1024 (now (t .entry))) (take n (now (b .entry))) ⌝ }
+{
+    if t.len() == 0 {
+        return n;
+    }
+    text::copy_at(b, 0, t);
+    if t.len() < 1024 {
+        return t.len();
+    }
+    1024
+}
+
+impl Context {
+    pub fn new() -> Context
+        ensures { λ r. ⌜ contextOf r ≡ record { query = []; fragment = [] } ⌝ }
+    {
+        Context {
+            query: [0u8; 1024],
+            qlen: 0,
+            fragment: [0u8; 1024],
+            flen: 0,
+        }
+    }
+
+    // A new one replaces the old, and a missing one leaves it. A target has at most 1,024 bytes; of longer texts the first 1,024 are taken.
+    pub fn with_query_fragment(mut self, query: &[u8], fragment: &[u8]) -> Context
+        ensures { λ r. ⌜ contextOf r ≡ withQueryFragment (contextOf self) (take 1024 (now (query .entry))) (take 1024 (now (fragment .entry))) ⌝ }
+    {
+        let n = self.qlen;
+        self.qlen = put(&mut self.query, n, query);
+        let k = self.flen;
+        self.flen = put(&mut self.fragment, k, fragment);
+        self
+    }
+}
