@@ -4,8 +4,18 @@ use Prim.Native.Nat.{ℕ}
 use lib.ListN.{length}
 use Rattle.definition.specs.Text.{Text}
 use Rattle.definition.specs.Ask.{Consult, Step, go, stop}
-use Rattle.definition.specs.Ask.{_>>=_}
-use Rattle.definition.specs.Path.{Built}
+use mathlib.Core.Option.{Option, none, some}
+use Rattle.definition.specs.Ask.{Ask, ret, read, _>>=_}
+use Rattle.definition.specs.Path.{Built, limited, manifestOf}
+use Rattle.definition.specs.Json.{Fault}
+use Rattle.definition.specs.ListingSteps.{part}
+use Rattle.definition.specs.Manifest as definition
+use Rattle.definition.specs.Manifest.{view}
+use Rattle.listing.specs.declared.Found.{Found}
+use Rattle.listing.specs.declared.Found.the-variants as InListing
+use Rattle.listing.specs.declared.Found.the-variants.{Absent, Directory}
+use Rattle.resolver.specs.declared.Manifest.{Manifest}
+use Rattle.resolver.specs.declared.Manifest.the-variants.{Missing, File, OverLong}
 use Rattle.definition.specs.Settings.{Settings}
 use Rattle.definition.specs.Manifest.{Place}
 use Rattle.definition.specs.Walk.{Look, made, tryFile}
@@ -41,3 +51,23 @@ unfoldable pub tryPath : Settings → Built → Text → Text → Look (Unit {0}
 tryPath G b q f = do
   p ← made b
   tryFile G (place p q f)
+
+-- The nearest manifest
+abbrev pub manifestFound : Found → Manifest
+manifestFound Absent = Missing
+manifestFound Directory = Missing
+manifestFound (InListing.File a e) = File a e
+
+-- the manifest in one directory, as it is read
+abbrev pub Sees : Type 0
+Sees = Step Fault definition.Manifest
+
+unfoldable pub manifestIn : Text → Look (Option Sees)
+manifestIn d = do
+  p ← made (limited (manifestOf d))
+  read p ret
+
+abbrev pub readOf : Settings → List ℕ → Manifest → Step Ending (Option Sees)
+readOf G l Missing = go none
+readOf G l (File a e) = go (some (view G (part l a e)))
+readOf G l OverLong = stop (numbers 42 [] [] [])

@@ -5,7 +5,7 @@ ghost use mathlib.Core.List.{List, _++_};
 ghost use Prim.Native.Nat.{ℕ, _+_, min};
 ghost use lib.ListN.{set};
 ghost use Rattle.definition.specs.Text.{overwrite};
-ghost use Rattle.definition.specs.Ask.{asked, go};
+ghost use Rattle.definition.specs.Ask.{asked, opened, go};
 ghost use Rattle.definition.specs.Listing.{entryAt};
 ghost use Rattle.definition.specs.Settings.{Settings};
 ghost use Rattle.definition.specs.Called.{seenBy};
@@ -13,7 +13,7 @@ ghost use Rattle.definition.specs.Walk.{isFile, tryFile};
 ghost use Rattle.listing.specs.Meaning.{seen};
 ghost use Rattle.path.specs.Meaning.{pathOf};
 ghost use Rattle.resolver.specs.Tape.{most, packed, put, Done};
-ghost use Rattle.resolver.specs.Meaning.{tapeOf, consultOf, stepOf, place, numbers, refusal, tryPath};
+ghost use Rattle.resolver.specs.Meaning.{tapeOf, consultOf, stepOf, place, numbers, refusal, tryPath, manifestFound, manifestIn, readOf};
 
 // How a lookup ended: the number of document 01, and the lengths of its texts, which stand in the result text.
 pub struct Ending {
@@ -196,4 +196,58 @@ fn try_path<'a>(
         };
     }
     try_file(l, path::first(&p.bytes, n), query, fragment, result, nums, text, m)
+}
+
+// What a directory holds as package.json: no file, or a file, whose contents lie there.
+pub enum Manifest {
+    Missing,
+    File { start: usize, end: usize },
+    OverLong,
+}
+
+// With the list in which the question stands.
+pub struct Read {
+    pub manifest: Manifest,
+    pub mark: Mark,
+}
+
+fn manifest_of(found: listing::Found) -> Manifest
+    ensures { λ r. ⌜ r ≡ manifestFound found ⌝ }
+{
+    match found {
+        listing::Found::Absent => Manifest::Missing,
+        listing::Found::Directory => Manifest::Missing,
+        listing::Found::File { start, end } => Manifest::File { start, end },
+    }
+}
+
+// The state of a manifest: its contents are read.
+fn opened_state(found: listing::Found) -> u8
+    ensures { λ r. ⌜ ((l : List ℕ) → r ≡ opened (seen l found)) ⌝ }
+{
+    match found {
+        listing::Found::Absent => 0,
+        listing::Found::Directory => 1,
+        listing::Found::File { start: _, end: _ } => 3,
+    }
+}
+
+// package.json in one directory: one consult, unless its path is over-long.
+fn read_manifest(l: &[u8], dir: &[u8], nums: &mut [u32], text: &mut [u8], m: Mark) -> Read
+    ensures { λ r. ⌜ ((G : Settings) (result : List ℕ) → Done (seenBy G (now (l .entry))) (manifestIn (now (dir .entry))) (tapeOf result (now (nums .entry)) (now (text .entry)) m) (tapeOf result (now (nums .exit)) (now (text .exit)) (r .mark)) (readOf G (now (l .entry)) (r .manifest))) ⌝ }
+{
+    let p = PathBuf::from(dir).push_manifest();
+    let n = p.len;
+    if n > 2048 {
+        return Read {
+            manifest: Manifest::OverLong,
+            mark: m,
+        };
+    }
+    let path = path::first(&p.bytes, n);
+    let found = listing::search(l, path);
+    Read {
+        manifest: manifest_of(found),
+        mark: note(path, opened_state(found), nums, text, m),
+    }
 }
