@@ -1,3 +1,6 @@
+use mathlib.Core.Path.{_∙_, sym, ap}
+use Rattle.definition.specs.Path.{andPath, limited, manifestOf}
+use Rattle.resolver.proofs.Nearest.{done-opened, manifest-long, manifest-fits}
 use borrow.Author.Needs.{needs}
 use Rattle.resolver.proofs.read_manifest.Statement.{statement}
 use Rattle.resolver.proofs.read_manifest.Tie as tie
@@ -11,62 +14,25 @@ use Rattle.resolver.proofs.manifest_of.Reads as manifest-of-reads
 use Rattle.resolver.proofs.note.Reads as note-reads
 use Rattle.resolver.proofs.opened_state.Reads as opened-state-reads
 
--- src/lib.rt:239:13
-from-requires : tie.Need-from-requires
-from-requires c κs = search needs
-
--- src/lib.rt:239:13
-push-manifest-requires : tie.Need-push-manifest-requires
-push-manifest-requires c κs = search needs
-
--- src/lib.rt:242:9
-returns : tie.Need-returns
-returns c = ?
-
--- src/lib.rt:247:9
-first-requires : tie.Need-first-requires
-first-requires c κs = search needs
-
--- src/lib.rt:248:9
-search-requires : tie.Need-search-requires
-search-requires c κs = search needs
-
--- src/lib.rt:250:19
-manifest-of-requires : tie.Need-manifest-of-requires
-manifest-of-requires c κs = search needs
-
--- src/lib.rt:251:26
-opened-state-requires : tie.Need-opened-state-requires
-opened-state-requires c κs = search needs
-
--- src/lib.rt:251:15
-note-requires : tie.Need-note-requires
-note-requires c κs = search needs
-
--- src/lib.rt:236:1
-same-length : tie.Need-same-length
-same-length c = search needs
-
--- src/lib.rt:236:1
-same-length-2 : tie.Need-same-length-2
-same-length-2 c = search needs
-
--- src/lib.rt:236:1
-returns-2 : tie.Need-returns-2
-returns-2 c = ?
-
 pub read-manifest-spec : {M : Type 1} → statement M
 read-manifest-spec =
     tie.close
     (tie.spec
-    from-requires
-    push-manifest-requires
-    returns
-    first-requires
-    search-requires
-    manifest-of-requires
-    opened-state-requires
-    note-requires
-    same-length
-    same-length-2
-    returns-2)
+    (λ c κs. search needs)
+    (λ c κs. search needs)
+    (λ c.
+        let b = c .before .push-manifest .ensures ∙ ap (λ x. andPath x (λ p. limited (manifestOf p))) (c .before .before .from .ensures) in
+        λ G res. manifest-long _ _ _ b _ (c .if1 .taken))
+    (λ c κs. search needs)
+    (λ c κs. search needs)
+    (λ c κs. search needs)
+    (λ c κs. search needs)
+    (λ c κs. search needs)
+    (λ c. search needs)
+    (λ c. search needs)
+    (λ c.
+        let b = c .before .before .before .before .before .before .before .before .before .before .before .before .before .before .before .push-manifest .ensures ∙ ap (λ x. andPath x (λ p. limited (manifestOf p))) (c .before .before .before .before .before .before .before .before .before .before .before .before .before .before .before .before .from .ensures) in
+        let p = c .before .before .before .before .before .before .before .before .before .before .first .ensures in
+        let f = c .before .before .before .before .before .before .before .before .before .search in
+        let l = c .before .before .before .before .before .before .before .before .before .before .before .before .before .before .before .before .before .before .before .before .before .args .l .now in
+        λ G res. rw (c .before .before .before .before .before .before .before .before .manifest-of .ensures) (manifest-fits _ _ _ b (c .before .before .before .before .before .before .before .before .before .before .before .before .before .before .if1 .left) (done-opened G l _ (f .result) _ _ _ (rw p at (f .ensures .0)) (c .before .before .before .before .before .before .before .opened-state .ensures l) (rw p at (c .before .before .before .before .note .ensures res))))))
