@@ -1,3 +1,3 @@
 pub mod Laws
 pub mod Steps
-pub mod Nearest
+pub mod Climbs

@@ -1,7 +1,7 @@
 -- What the types of `resolver` mean.
 use mathlib.Core.List.{List, [], _∷_}
 use Prim.Native.Nat.{ℕ}
-use lib.ListN.{length}
+use lib.ListN.{length, take}
 use Rattle.definition.specs.Text.{Text}
 use Rattle.definition.specs.Ask.{Consult, Step, go, stop}
 use mathlib.Core.Option.{Option, none, some}
@@ -16,6 +16,8 @@ use Rattle.listing.specs.declared.Found.the-variants as InListing
 use Rattle.listing.specs.declared.Found.the-variants.{Absent, Directory}
 use Rattle.resolver.specs.declared.Manifest.{Manifest}
 use Rattle.resolver.specs.declared.Manifest.the-variants.{Missing, File, OverLong}
+use Rattle.resolver.specs.declared.Near.{Near}
+use Rattle.resolver.specs.declared.Near.the-variants.{Nowhere, At, TooLong}
 use Rattle.definition.specs.Settings.{Settings}
 use Rattle.definition.specs.Manifest.{Place}
 use Rattle.definition.specs.Walk.{Look, made, tryFile}
@@ -71,3 +73,21 @@ abbrev pub readOf : Settings → List ℕ → Manifest → Step Ending (Option S
 readOf G l Missing = go none
 readOf G l (File a e) = go (some (view G (part l a e)))
 readOf G l OverLong = stop (numbers 42 [] [] [])
+
+-- the nearest manifest of directories, as it is read: the definition's `nearest` before the manifest is judged
+pub record Sought : Type 0 where
+  pub dir : Text
+  pub sees : Sees
+
+unfoldable pub orFurther : Text → Look (Option Sought) → Option Sees → Look (Option Sought)
+orFurther d further none = further
+orFurther d further (some v) = ret (some (record { dir = d; sees = v }))
+
+unfoldable pub seek : List Text → Look (Option Sought)
+seek [] = ret none
+seek (d ∷ ds) = manifestIn d >>= orFurther d (seek ds)
+
+abbrev pub soughtOf : Settings → List ℕ → Text → Near → Step Ending (Option Sought)
+soughtOf G l dir Nowhere = go none
+soughtOf G l dir (At n a e) = go (some (record { dir = take n dir; sees = view G (part l a e) }))
+soughtOf G l dir TooLong = stop (numbers 42 [] [] [])

@@ -5,6 +5,7 @@ ghost use mathlib.Core.List.{List, _++_};
 ghost use Prim.Native.Nat.{ℕ, _+_, min};
 ghost use lib.ListN.{set};
 ghost use Rattle.definition.specs.Text.{overwrite};
+ghost use Rattle.definition.specs.Path.{depth, dirs};
 ghost use Rattle.definition.specs.Ask.{asked, opened, go};
 ghost use Rattle.definition.specs.Listing.{entryAt};
 ghost use Rattle.definition.specs.Settings.{Settings};
@@ -13,7 +14,7 @@ ghost use Rattle.definition.specs.Walk.{isFile, tryFile};
 ghost use Rattle.listing.specs.Meaning.{seen};
 ghost use Rattle.path.specs.Meaning.{pathOf};
 ghost use Rattle.resolver.specs.Tape.{most, packed, put, Done};
-ghost use Rattle.resolver.specs.Meaning.{tapeOf, consultOf, stepOf, place, numbers, refusal, tryPath, manifestFound, manifestIn, readOf};
+ghost use Rattle.resolver.specs.Meaning.{tapeOf, consultOf, stepOf, place, numbers, refusal, tryPath, manifestFound, manifestIn, readOf, seek, soughtOf};
 
 // How a lookup ended: the number of document 01, and the lengths of its texts, which stand in the result text.
 pub struct Ending {
@@ -195,7 +196,16 @@ fn try_path<'a>(
             mark: m,
         };
     }
-    try_file(l, path::first(&p.bytes, n), query, fragment, result, nums, text, m)
+    try_file(
+        l,
+        path::first(&p.bytes, n),
+        query,
+        fragment,
+        result,
+        nums,
+        text,
+        m,
+    )
 }
 
 // What a directory holds as package.json: no file, or a file, whose contents lie there.
@@ -250,4 +260,68 @@ fn read_manifest(l: &[u8], dir: &[u8], nums: &mut [u32], text: &mut [u8], m: Mar
         manifest: manifest_of(found),
         mark: note(path, opened_state(found), nums, text, m),
     }
+}
+
+// The nearest manifest: the length of its directory within the path, and where its contents lie.
+pub enum Near {
+    Nowhere,
+    At {
+        dir: usize,
+        start: usize,
+        end: usize,
+    },
+    TooLong,
+}
+
+pub struct Nearest {
+    pub near: Near,
+    pub mark: Mark,
+}
+
+// package.json in the directory, then in each above it: the first that is a file.
+fn find_package_json(l: &[u8], dir: &[u8], nums: &mut [u32], text: &mut [u8], m: Mark) -> Nearest
+    ensures { λ r. ⌜ ((G : Settings) (result : List ℕ) → Done (seenBy G (now (l .entry))) (seek (dirs (now (dir .entry)))) (tapeOf result (now (nums .entry)) (now (text .entry)) m) (tapeOf result (now (nums .exit)) (now (text .exit)) (r .mark)) (soughtOf G (now (l .entry)) (now (dir .entry)) (r .near))) ⌝ }
+{
+    let mut mark = m;
+    let mut n = dir.len();
+    let mut above = depth(dir);
+    loop {
+        let d = path::first(dir, n);
+        let read = read_manifest(l, d, nums, text, mark);
+        mark = read.mark;
+        let manifest = read.manifest;
+        match manifest {
+            Manifest::Missing => {}
+            Manifest::File { start, end } => {
+                return Nearest {
+                    near: Near::At { dir: n, start, end },
+                    mark,
+                };
+            }
+            Manifest::OverLong => {
+                return Nearest {
+                    near: Near::TooLong,
+                    mark,
+                };
+            }
+        }
+        if above == 0 {
+            return Nearest {
+                near: Near::Nowhere,
+                mark,
+            };
+        }
+        n = path::parent(d).len();
+        above -= 1;
+    }
+}
+
+// How many directories are above a path.
+fn depth(p: &[u8]) -> usize
+    ensures { λ r. ⌜ r ≡ depth (now (p .entry)) ⌝ }
+{
+    if text::equal(p, b"/") {
+        return 0;
+    }
+    text::count(p, b'/')
 }

@@ -1,6 +1,6 @@
 use mathlib.Core.Path.{_∙_, sym, ap}
 use Rattle.definition.specs.Path.{andPath, limited, manifestOf}
-use Rattle.resolver.proofs.Nearest.{done-opened, manifest-long, manifest-fits}
+use Rattle.resolver.proofs.Climbs.{done-opened, manifest-long, manifest-fits}
 use borrow.Author.Needs.{needs}
 use Rattle.resolver.proofs.read_manifest.Statement.{statement}
 use Rattle.resolver.proofs.read_manifest.Tie as tie
@@ -21,8 +21,8 @@ read-manifest-spec =
     (λ c κs. search needs)
     (λ c κs. search needs)
     (λ c.
-        let b = c .before .push-manifest .ensures ∙ ap (λ x. andPath x (λ p. limited (manifestOf p))) (c .before .before .from .ensures) in
-        λ G res. manifest-long _ _ _ b _ (c .if1 .taken))
+    let b = c .before .push-manifest .ensures ∙ ap (λ x. andPath x (λ p. limited (manifestOf p))) (c .before .before .from .ensures) in
+    λ G res. manifest-long _ _ _ b _ (c .if1 .taken))
     (λ c κs. search needs)
     (λ c κs. search needs)
     (λ c κs. search needs)
@@ -31,8 +31,8 @@ read-manifest-spec =
     (λ c. search needs)
     (λ c. search needs)
     (λ c.
-        let b = c .before .before .before .before .before .before .before .before .before .before .before .before .before .before .before .push-manifest .ensures ∙ ap (λ x. andPath x (λ p. limited (manifestOf p))) (c .before .before .before .before .before .before .before .before .before .before .before .before .before .before .before .before .from .ensures) in
-        let p = c .before .before .before .before .before .before .before .before .before .before .first .ensures in
-        let f = c .before .before .before .before .before .before .before .before .before .search in
-        let l = c .before .before .before .before .before .before .before .before .before .before .before .before .before .before .before .before .before .before .before .before .before .args .l .now in
-        λ G res. rw (c .before .before .before .before .before .before .before .before .manifest-of .ensures) (manifest-fits _ _ _ b (c .before .before .before .before .before .before .before .before .before .before .before .before .before .before .if1 .left) (done-opened G l _ (f .result) _ _ _ (rw p at (f .ensures .0)) (c .before .before .before .before .before .before .before .opened-state .ensures l) (rw p at (c .before .before .before .before .note .ensures res))))))
+    let b = c .before .before .before .before .before .before .before .before .before .before .before .before .before .before .before .push-manifest .ensures ∙ ap (λ x. andPath x (λ p. limited (manifestOf p))) (c .before .before .before .before .before .before .before .before .before .before .before .before .before .before .before .before .from .ensures) in
+    let p = c .before .before .before .before .before .before .before .before .before .before .first .ensures in
+    let f = c .before .before .before .before .before .before .before .before .before .search in
+    let l = c .before .before .before .before .before .before .before .before .before .before .before .before .before .before .before .before .before .before .before .before .before .args .l .now in
+    λ G res. rw (c .before .before .before .before .before .before .before .before .manifest-of .ensures) (manifest-fits _ _ _ b (c .before .before .before .before .before .before .before .before .before .before .before .before .before .before .if1 .left) (done-opened G l _ (f .result) _ _ _ (rw p at (f .ensures .0)) (c .before .before .before .before .before .before .before .opened-state .ensures l) (rw p at (c .before .before .before .before .note .ensures res))))))
