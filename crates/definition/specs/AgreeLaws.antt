@@ -1,5 +1,5 @@
 -- Two listings that agree at every path that a routine consults over the first give it the same answer and the same list.
--- Assumes nothing.
+--
 use mathlib.Core.Path.{_≡_, refl, sym, _∙_, ap}
 use mathlib.Core.List.{List, [], _∷_, List·Memᴰ, List·Memᴰ·head, List·Memᴰ·tail}
 use mathlib.Core.Option.{Option, none, some}

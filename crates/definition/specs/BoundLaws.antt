@@ -1,4 +1,4 @@
--- HOW LONG A LIST CAN BE: the rules. Assumes nothing.
+-- HOW LONG A LIST CAN BE: the rules.
 use mathlib.Core.Path.{_≡_, refl, sym, _∙_, ap, subst}
 use mathlib.Core.Bool.{Bool, true, false}
 use mathlib.Core.List.{List, [], _∷_, _++_}

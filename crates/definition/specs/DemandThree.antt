@@ -1,4 +1,4 @@
--- THE PROMISES about the definition and about whole calls, on bytes. Assumes nothing.
+-- THE PROMISES about the definition and about whole calls, on bytes.
 use mathlib.Core.Path.{_≡_, refl, sym, _∙_, ap}
 use mathlib.Core.Bool.{Bool, true, false, _&&_}
 use mathlib.Core.List.{List, [], _∷_, List·Memᴰ}

@@ -1,5 +1,5 @@
 -- Demand 3 at work, on bytes: a second listing in which the manifest's exports map is reordered and other entries stand elsewhere.
--- Assumes nothing.
+--
 use mathlib.Core.Path.{_≡_, refl, sym, _∙_, ap, subst}
 use mathlib.Core.Bool.{Bool, true, false}
 use mathlib.Core.List.{List, [], _∷_, _++_, List·Memᴰ, List·Memᴰ·head, List·Memᴰ·tail, List·Memᴰ·not-nil, List·Permᴰ·swap}

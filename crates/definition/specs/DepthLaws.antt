@@ -1,5 +1,5 @@
 -- The letters of 01's formula on the listing's bytes: every directory of a listing is at most `height` directories from "/", and of an
--- accepted one at most 33. Assumes nothing.
+-- accepted one at most 33.
 use mathlib.Core.Path.{_≡_, refl, sym, _∙_, ap}
 use mathlib.Core.Bool.{Bool, true, false, _&&_, _||_}
 use mathlib.Core.List.{List, [], _∷_}

@@ -1,18 +1,26 @@
--- No path that is built has over 2,048 bytes: paths, extensions, and what exports give.
+-- HOW LONG THE TEXTS ARE: no path that is built has over 2,048 bytes, and the texts of what exports give, a path with query and fragment or
+-- an error, have at most 6,157 together.
 use mathlib.Core.Path.{_≡_, refl, sym, _∙_, ap}
-use Prim.Native.Nat.{ℕ, zero, suc, _+_, _-_, _≤_, _<_}
+use Prim.Native.Nat.{ℕ, zero, suc, _+_, _-_, _*_, _≤_, _<_}
 use native.Mathlib.Omega.{arith}
 use mathlib.Core.Bool.{Bool, true, false, not, _&&_, _||_}
-use mathlib.Core.List.{List, [], _∷_, _++_}
+use mathlib.Core.List.{List, [], _∷_, _++_, flatMap}
 use mathlib.Core.Option.{Option, none, some}
-use lib.ListN.{length, drop, take, length-append}
+use lib.ListN.{length, drop, take, length-append, length-take, length-drop}
 use lib.Dec.{eqb, leb, ltb}
-use borrow.Author.Tests.{leb-true}
-use Rattle.definition.specs.Text.{text, if_then_else_, slash, equal, startsWith, endsWith, contains, isOneOf, beforeLast}
-use Rattle.definition.specs.Path.{Component, rootDir, curDir, parentDir, normal, components, push, orRoot, parent, Built, built, tooLong, andPath, limited, pushComponent, pushAll, normalizeOnto, normalizeWith, isInvalidExportsTarget, addExtension, addNameAndExtension, manifestOf, depth, climb, dirs}
-use Rattle.definition.specs.Specifier.{Specifier, parsed, emptySpecifier, parseSpecifier}
-use Rattle.definition.specs.Json.{Json, scalar, str, arr, obj, Elements, noElement, element, Members, noMember, member}
-use Rattle.definition.specs.Exports.{Failure, PackagePathNotExported, Context, Outcome, found, nothing, failed, overlong, Resolved, orGoOn, orNext, Entry, entries, get, literal, best, Target, target, directoryError, normalizeStringTarget, Request, outcomeOf, invalidTarget, targetPath, stringTarget, withQueryFragment, orDot, pathNotExported, isEmpty, PACKAGE-TARGET-RESOLVE, eachCondition, eachElement, bestResolve, literalOr, PACKAGE-IMPORTS-EXPORTS-RESOLVE, isMixed, mainExport, mainResolve, keyResolve, PACKAGE-EXPORTS-RESOLVE, patternMatch}
+use borrow.Author.Tests.{leb-true, ltb-false}
+use Rattle.definition.specs.Text.{text, if_then_else_, slash, star, hash, question, equal, startsWith, endsWith, contains, containsText, before, from, after, beforeLast, split, toFirst, utf8}
+use Rattle.definition.specs.TextLaws.{equal-true}
+use Rattle.definition.specs.TextSteps.{before-inside}
+use Rattle.definition.specs.Path.{Component, rootDir, curDir, parentDir, normal, component, leading, components, push, orRoot, parent, pops, Built, built, tooLong, andPath, limited, pushComponent, pushAll, normalizeOnto, normalizeWith, pushRelative, normalizeRelative, isInvalidExportsTarget, addExtension, addNameAndExtension, manifestOf, depth, climb, dirs}
+use Rattle.definition.specs.Specifier.{Specifier, parsed, emptySpecifier, beforeFragment, body, unescape, pathBefore, orEmpty, parseSpecifier, packageName, packageSubpath, dotSubpath, stripPackageName, normalizedSpecifier, climbing}
+use Rattle.definition.specs.Json.{Json}
+use Rattle.definition.specs.Exports.{Failure, NotFound, Empty, InvalidPackageTarget, PackagePathNotExported, InvalidPackageConfig, InvalidPackageConfigDirectory, JsonError, failureTexts, Context, Outcome, found, nothing, failed, overlong, Resolved, orOld, withQueryFragment, starMatch, isSubpathKey, patternMatch, Target, target, directoryError, normalizeStringTarget, Request, outcomeOf, invalidTarget, targetPath, stringTarget, orDot, pathNotExported, PACKAGE-EXPORTS-RESOLVE}
+use Rattle.definition.specs.Called.{joined}
+use Rattle.definition.specs.ExportsLaws.{Strings, Kept, Keeps, exports-kept}
+use Rattle.definition.specs.StringBound.{Small}
+
+-- Paths -----------------------------------------------------------------------------------------------------------------------------
 
 abbrev pub Fit : List ℕ → Type 0
 Fit p = length p ≤ 2048
@@ -38,9 +46,9 @@ unfolding pushAll
 pushAll-fits [] p h = h
 pushAll-fits (c ∷ cs) p h = andPath-fits (limited (pushComponent c p)) (λ q. pushAll cs q) (limited-fits (pushComponent c p)) (λ q g. pushAll-fits cs q g)
 
-pub normalizeWith-fits : (base sub : List ℕ) → Fit base → BuiltFits (normalizeWith base sub)
+pub normalizeWith-fits : (base sub : List ℕ) → BuiltFits (normalizeWith base sub)
 unfolding normalizeWith
-normalizeWith-fits base sub h = onto (components sub)
+normalizeWith-fits base sub = onto (components sub)
   where
     onto : (cs : List Component) → BuiltFits (normalizeOnto base sub cs)
     onto [] = unfold normalizeOnto in (limited-fits sub)
@@ -57,121 +65,209 @@ pub addNameAndExtension-fits : (p n e : List ℕ) → BuiltFits (addNameAndExten
 unfolding addNameAndExtension
 addNameAndExtension-fits p n e = limited-fits _
 
--- what exports give
-pub record OutcomeFits (o : Outcome) : Type 0 where
-  pub fits : (p : List ℕ) → o ≡ found p → Fit p
+-- Specifiers ------------------------------------------------------------------------------------------------------------------------
 
-record Fits (r : Resolved) : Type 0 where
-  fits : OutcomeFits (r .outcome)
+if-short : (n : ℕ) (u : Bool) (a b : List ℕ) → length a ≤ n → length b ≤ n → length (if u then a else b) ≤ n
+if-short n true a b h k = h
+if-short n false a b h k = k
 
-found-fits : {p : List ℕ} → Fit p → OutcomeFits (found p)
-found-fits {p} h = record { fits = λ q e. let x : p ≡ q = cc in rw (← x) h }
+utf8-short : (c : ℕ) → length (utf8 c) ≤ 4
+unfolding utf8
+utf8-short c =
+    if-short 4 (ltb c 128) _ _ (omega arith) (if-short 4 (ltb c 2048) _ _ (omega arith) (if-short 4 (ltb c 65536) _ _ (omega arith) (omega arith)))
 
-nothing-fits : OutcomeFits nothing
-nothing-fits = record { fits = λ p e. absurd (let z : _≡_ {A = ℕ} 0 1 = cc in omega arith) }
+widened-short : (s : List ℕ) → length (flatMap utf8 s) ≤ 4 * length s
+unfolding flatMap
+widened-short [] = omega arith
+widened-short (c ∷ s) = omega (arith, widened-short s, utf8-short c, length-append (utf8 c) (flatMap utf8 s))
 
-failed-fits : {f : Failure} → OutcomeFits (failed f)
-failed-fits = record { fits = λ p e. absurd (let z : _≡_ {A = ℕ} 0 1 = cc in omega arith) }
+beforeFragment-short : (p : ℕ) (s : List ℕ) → length (beforeFragment p s) ≤ length s
+unfolding beforeFragment
+beforeFragment-short p [] = omega arith
+beforeFragment-short p (b ∷ s) =
+    let h : length (beforeFragment b s) ≤ length s = beforeFragment-short b s in
+    if-short (suc (length s)) (eqb b hash && not (eqb p 0)) [] (b ∷ beforeFragment b s) (omega arith) (omega arith)
 
-overlong-fits : OutcomeFits overlong
-overlong-fits = record { fits = λ p e. absurd (let z : _≡_ {A = ℕ} 0 1 = cc in omega arith) }
+body-short : (s : List ℕ) → length (body s) ≤ length s
+unfolding body
+body-short [] = omega arith
+body-short (b ∷ s) = omega (arith, beforeFragment-short b s)
 
-orGoOn-at : (c : Context) (o : Outcome) (k : Context → Resolved) → OutcomeFits o → ((d : Context) → Fits (k d)) → Fits (orGoOn (record { context = c; outcome = o }) k)
-orGoOn-at c (found p) k h f = record { fits = h }
-orGoOn-at c nothing k h f = f c
-orGoOn-at c (failed e) k h f = record { fits = h }
-orGoOn-at c overlong k h f = record { fits = h }
+unescape-short : (s : List ℕ) → length (unescape s) ≤ length s
+unfolding unescape
+unescape-short [] = omega arith
+unescape-short (b ∷ s) =
+    let h : length (unescape s) ≤ length s = unescape-short s in
+    let g = if-short 1 (eqb b 0 && startsWith (text "#") s) [] (b ∷ []) (omega arith) (omega arith) in
+    omega (arith, length-append (if eqb b 0 && startsWith (text "#") s then [] else b ∷ []) (unescape s))
 
-orGoOn-fits : (r : Resolved) (k : Context → Resolved) → Fits r → ((d : Context) → Fits (k d)) → Fits (orGoOn r k)
-orGoOn-fits r k h f = orGoOn-at (r .context) (r .outcome) k (h .fits) f
+path-short : (s : List ℕ) → length (pathBefore s) ≤ 4 * length s
+unfolding pathBefore
+path-short s =
+    let b : length (before question s) ≤ length s = before-inside question s in
+    if-short (4 * length s) (containsText (0 ∷ hash ∷ []) s) _ _
+    (omega (arith, widened-short (unescape (before question s)), unescape-short (before question s)))
+    (omega arith)
 
-orNext-at : (js : Elements) (c : Context) (o : Outcome) (k : Context → Resolved) → OutcomeFits o → ((d : Context) → Fits (k d)) → Fits (orNext js (record { context = c; outcome = o }) k)
-orNext-at js c (found p) k h f = record { fits = h }
-orNext-at js c nothing k h f = f c
-orNext-at noElement c (failed e) k h f = record { fits = h }
-orNext-at (element j js) c (failed e) k h f = f c
-orNext-at js c overlong k h f = record { fits = h }
+-- what a target of at most 1,024 bytes is parsed into
+abbrev SpecifierFits : Specifier → Type 0
+SpecifierFits emptySpecifier = Unit {0}
+SpecifierFits (parsed p q f) = (length p ≤ 4096) × ((length q ≤ 1024) × (length f ≤ 1024))
 
-orNext-fits : (js : Elements) (r : Resolved) (k : Context → Resolved) → Fits r → ((d : Context) → Fits (k d)) → Fits (orNext js r k)
-orNext-fits js r k h f = orNext-at js (r .context) (r .outcome) k (h .fits) f
+orEmpty-fits : (p q f : List ℕ) → length p ≤ 4096 → length q ≤ 1024 → length f ≤ 1024 → SpecifierFits (orEmpty p q f)
+unfolding orEmpty
+orEmpty-fits [] q f x y z = tt
+orEmpty-fits (b ∷ p) q f x y z = (x, (y, z))
 
-if-fits : (u : Bool) {r s : Resolved} → Fits r → Fits s → Fits (if u then r else s)
-if-fits true x y = x
-if-fits false x y = y
+parse-fits : (s : List ℕ) → Small s → SpecifierFits (parseSpecifier s)
+unfolding parseSpecifier from
+parse-fits s h =
+    let l : length (body s) ≤ length s = body-short s in
+    orEmpty-fits (pathBefore (body s)) (drop (length (before question (body s))) (body s)) (drop (length (body s)) s)
+    (omega (arith, path-short (body s)))
+    (omega (arith, length-drop (length (before question (body s))) (body s)))
+    (omega (arith, length-drop (length (body s)) s))
 
-if-outcome : (u : Bool) {r s : Outcome} → OutcomeFits r → OutcomeFits s → OutcomeFits (if u then r else s)
-if-outcome true x y = x
-if-outcome false x y = y
+-- Exports ---------------------------------------------------------------------------------------------------------------------------
+
+-- the texts of an error have at most 6,157 bytes: a target of 4,096, a key of 1,024 and a manifest's path of 1,037
+abbrev pub FailureFits : Failure → Type 0
+FailureFits f = length (joined (failureTexts f)) ≤ 6157
+
+abbrev pub OutcomeFits : Outcome → Type 0
+OutcomeFits (found p) = Fit p
+OutcomeFits nothing = Unit {0}
+OutcomeFits (failed f) = FailureFits f
+OutcomeFits overlong = Unit {0}
+
+abbrev pub ContextFits : Context → Type 0
+ContextFits c = (length (c .query) ≤ 1024) × (length (c .fragment) ≤ 1024)
+
+record RequestFits (q : Request) : Type 0 where
+  url : length (q .packageURL) ≤ 1024
+  key : length (q .key) ≤ 1024
+  matched : length (orDot (q .matched)) ≤ 1024
+
+-- the texts of each error
+fits-1 : (t : List ℕ) → length t ≤ 6157 → length (joined (t ∷ [])) ≤ 6157
+unfolding joined
+fits-1 t h = omega (arith, length-append t [])
+
+fits-2 : (s t : List ℕ) → length s + length t ≤ 6157 → length (joined (s ∷ t ∷ [])) ≤ 6157
+unfolding joined
+fits-2 s t h = omega (arith, length-append s (t ++ []), length-append t [])
+
+fits-3 : (r s t : List ℕ) → length r + length s + length t ≤ 6157 → length (joined (r ∷ s ∷ t ∷ [])) ≤ 6157
+unfolding joined
+fits-3 r s t h = omega (arith, length-append r (s ++ (t ++ [])), length-append s (t ++ []), length-append t [])
+
+pub manifest-short : (d : List ℕ) → length (manifestOf d) ≤ length d + 13
+unfolding manifestOf push
+manifest-short d =
+    if-short (length d + 13) (equal d [] || endsWith (text "/") d) _ _
+    (omega (arith, length-append d (text "package.json")))
+    (omega (arith, length-append d (text "/"), length-append (d ++ text "/") (text "package.json")))
+
+invalid-fits : (q : Request) (t : List ℕ) → RequestFits q → length t ≤ 4096 → OutcomeFits (invalidTarget q t)
+unfolding invalidTarget failureTexts
+invalid-fits q t r h = fits-3 t (q .key) (manifestOf (q .packageURL)) (let u = r .url in let k = r .key in omega (arith, manifest-short (q .packageURL)))
+
+if-outcome : (u : Bool) (a b : Outcome) → (u ≡ true → OutcomeFits a) → (u ≡ false → OutcomeFits b) → OutcomeFits (if u then a else b)
+if-outcome true a b h k = h refl
+if-outcome false a b h k = k refl
 
 outcomeOf-fits : (b : Built) → BuiltFits b → OutcomeFits (outcomeOf b)
 unfolding outcomeOf
-outcomeOf-fits (built p) h = found-fits h
-outcomeOf-fits tooLong h = overlong-fits
+outcomeOf-fits (built p) h = h
+outcomeOf-fits tooLong h = tt
 
-targetPath-fits : (q : Request) (t : Target) → Fit (q .packageURL) → OutcomeFits (targetPath q t)
-unfolding targetPath invalidTarget
-targetPath-fits q directoryError h = failed-fits
-targetPath-fits q (target t) h =
-    if-outcome (ltb 2048 (length t)) overlong-fits (if-outcome (isInvalidExportsTarget t) failed-fits (outcomeOf-fits (normalizeWith (q .packageURL) t) (normalizeWith-fits (q .packageURL) t h)))
+targetPath-fits : (q : Request) (t : Target) → RequestFits q → OutcomeFits (targetPath q t)
+unfolding targetPath failureTexts
+targetPath-fits q directoryError r = fits-1 (manifestOf (q .packageURL)) (let u = r .url in omega (arith, manifest-short (q .packageURL)))
+targetPath-fits q (target t) r =
+    if-outcome (ltb 2048 (length t)) _ _ (λ _. tt) (λ e.
+    if-outcome (isInvalidExportsTarget t) _ _ (λ _. invalid-fits q t r (let l = ltb-false 2048 (length t) e in omega arith)) (λ _.
+    outcomeOf-fits (normalizeWith (q .packageURL) t) (normalizeWith-fits (q .packageURL) t)))
 
-stringTarget-fits : (q : Request) (p : Specifier) (s : List ℕ) (c : Context) → Fit (q .packageURL) → Fits (stringTarget q p s c)
-unfolding stringTarget invalidTarget
-stringTarget-fits q emptySpecifier s c h = record { fits = failed-fits }
-stringTarget-fits q (parsed p qu fr) s c h = record { fits = if-outcome (startsWith (text "./") p) (targetPath-fits q _ h) failed-fits }
+orOld-short : (new old : List ℕ) → length new ≤ 1024 → length old ≤ 1024 → length (orOld new old) ≤ 1024
+unfolding orOld
+orOld-short [] old h k = k
+orOld-short (b ∷ new) old h k = h
 
-mutual
-  unfolding PACKAGE-TARGET-RESOLVE pathNotExported
+stringTarget-fits : (q : Request) (p : Specifier) (s : List ℕ) (c : Context) → RequestFits q → SpecifierFits p → Small s → ContextFits c → Kept ContextFits OutcomeFits (stringTarget q p s c)
+unfolding stringTarget withQueryFragment failureTexts
+stringTarget-fits q emptySpecifier s c r x h g = record { context = g; outcome = fits-1 s (omega arith) }
+stringTarget-fits q (parsed p qu fr) s c r x h g = record {
+  context = (orOld-short qu (c .query) (x .1 .0) (g .0), orOld-short fr (c .fragment) (x .1 .1) (g .1));
+  outcome = if-outcome (startsWith (text "./") p) _ _ (λ _. targetPath-fits q _ r) (λ _. invalid-fits q p r (x .0));
+}
 
-  target-fits : (q : Request) (j : Json) (c : Context) → Fit (q .packageURL) → Fits (PACKAGE-TARGET-RESOLVE q j c)
-  target-fits q scalar c h = record { fits = nothing-fits }
-  target-fits q (str s) c h = stringTarget-fits q (parseSpecifier s) s c h
-  target-fits q (arr js) c h = if-fits (isEmpty js) (record { fits = failed-fits }) (elements-fit q js c h)
-  target-fits q (obj ms) c h = conditions-fit q ms c h
+keeps-fits : Keeps Small ContextFits RequestFits OutcomeFits
+unfolding pathNotExported failureTexts
+keeps-fits = record {
+  strings = λ q s c r x g. stringTarget-fits q (parseSpecifier s) s c r (parse-fits s x) x g;
+  emptyArray = λ q r. fits-2 (orDot (q .matched)) (q .packageURL) (let u = r .url in let m = r .matched in omega arith);
+  nowhere = tt;
+}
 
-  conditions-fit : (q : Request) (ms : Members) (c : Context) → Fit (q .packageURL) → Fits (eachCondition q ms c)
-  conditions-fit q noMember c h = record { fits = nothing-fits }
-  conditions-fit q (member k j ms) c h =
-      if-fits (equal k (text "default") || isOneOf (q .conditions) k)
-      (orGoOn-fits (PACKAGE-TARGET-RESOLVE q j c) (λ d. eachCondition q ms d) (target-fits q j c h) (λ d. conditions-fit q ms d h))
-      (conditions-fit q ms c h)
+-- the part matched is no longer than the match key
+record PartFits (o : Option (List ℕ)) : Type 0 where
+  short : length (orDot o) ≤ 1024
 
-  elements-fit : (q : Request) (js : Elements) (c : Context) → Fit (q .packageURL) → Fits (eachElement q js c)
-  elements-fit q noElement c h = record { fits = nothing-fits }
-  elements-fit q (element j js) c h =
-      orNext-fits js (PACKAGE-TARGET-RESOLVE q j c) (λ d. eachElement q js d) (target-fits q j c h) (λ d. elements-fit q js d h)
+no-part : PartFits none
+unfolding orDot
+no-part = record { short = omega arith }
 
-best-fits : (url : List ℕ) (conds : List (List ℕ)) (mk : List ℕ) (o : Option Entry) (c : Context) → Fit url → Fits (bestResolve url conds mk o c)
-unfolding bestResolve
-best-fits url conds mk none c h = record { fits = nothing-fits }
-best-fits url conds mk (some e) c h = target-fits _ (e .target) c h
+some-part : (m : List ℕ) → length m ≤ 1024 → PartFits (some m)
+unfolding orDot
+some-part m h = record { short = h }
 
-literalOr-fits : (url : List ℕ) (conds : List (List ℕ)) (mk : List ℕ) (o : Option Json) (es : List Entry) (c : Context) → Fit url → Fits (literalOr url conds mk o es c)
-unfolding literalOr
-literalOr-fits url conds mk (some j) es c h = target-fits _ j c h
-literalOr-fits url conds mk none es c h = best-fits url conds mk (best mk none es) c h
+if-part : (u : Bool) {a b : Option (List ℕ)} → PartFits a → PartFits b → PartFits (if u then a else b)
+if-part true x y = x
+if-part false x y = y
 
-key-fits : (url : List ℕ) (conds : List (List ℕ)) (mk : List ℕ) (j : Json) (c : Context) → Fit url → Fits (keyResolve url conds mk j c)
-unfolding keyResolve PACKAGE-IMPORTS-EXPORTS-RESOLVE
-key-fits url conds mk scalar c h = record { fits = nothing-fits }
-key-fits url conds mk (str s) c h = record { fits = nothing-fits }
-key-fits url conds mk (arr js) c h = record { fits = nothing-fits }
-key-fits url conds mk (obj ms) c h = if-fits (endsWith (text "/") mk) (record { fits = nothing-fits }) (literalOr-fits url conds mk (literal mk (entries ms)) (entries ms) c h)
+match-short : (mk k : List ℕ) → length mk ≤ 1024 → PartFits (patternMatch mk k)
+unfolding patternMatch starMatch
+match-short mk k h =
+    let base = before star k in
+    let trailer = after star k in
+    if-part (not (isSubpathKey k)) no-part
+    (if-part (contains star k)
+    (if-part (startsWith base mk && not (contains star trailer) && (equal trailer [] || (leb (length k) (length mk) && endsWith trailer mk)))
+    (some-part (take (length mk - length base - length trailer) (drop (length base) mk)) (omega (arith, length-take (length mk - length base - length trailer) (drop (length base) mk), length-drop (length base) mk))) no-part)
+    (if-part (endsWith (text "/") k && startsWith k mk) (some-part (drop (length k) mk) (omega (arith, length-drop (length k) mk))) no-part))
 
-main-fits : (url : List ℕ) (conds : List (List ℕ)) (o : Option Json) (c : Context) → Fit url → Fits (mainResolve url conds o c)
-unfolding mainResolve
-main-fits url conds none c h = record { fits = nothing-fits }
-main-fits url conds (some j) c h = target-fits _ j c h
+pub exports-fit : (url : List ℕ) (conds : List (List ℕ)) (subpath : List ℕ) (j : Json) (c : Context) → length url ≤ 1024 → length subpath ≤ 1024 → Strings Small j → ContextFits c
+    → Kept ContextFits OutcomeFits (PACKAGE-EXPORTS-RESOLVE url conds subpath j c)
+unfolding failureTexts orDot
+exports-fit url conds sub j c u s x g =
+    exports-kept keeps-fits url conds sub
+    (record { url = u; key = omega arith; matched = omega arith })
+    (record { url = u; key = s; matched = omega arith })
+    (λ k h. record { url = u; key = h; matched = match-short sub k s .short })
+    (fits-1 (manifestOf url) (omega (arith, manifest-short url)))
+    (fits-2 sub url (omega arith))
+    j c x g
 
-resolve-fits : (url : List ℕ) (conds : List (List ℕ)) (subpath : List ℕ) (j : Json) (c : Context) → Fit url → Fits (PACKAGE-EXPORTS-RESOLVE url conds subpath j c)
-unfolding PACKAGE-EXPORTS-RESOLVE pathNotExported
-resolve-fits url conds subpath j c h =
-    if-fits (isMixed j) (record { fits = failed-fits })
-    (orGoOn-fits (mainResolve url conds (if equal subpath (text ".") then mainExport j else none) c) (λ d. orGoOn (keyResolve url conds subpath j d) λ e. record { context = e; outcome = failed (PackagePathNotExported subpath url) })
-    (main-fits url conds (if equal subpath (text ".") then mainExport j else none) c h) (λ d.
-    orGoOn-fits (keyResolve url conds subpath j d) (λ e. record { context = e; outcome = failed (PackagePathNotExported subpath url) }) (key-fits url conds subpath j d h) (λ e. record { fits = failed-fits })))
+-- Subpaths, and the name of the second walk ------------------------------------------------------------------------------------------
 
-pub exports-fit : (url : List ℕ) (conds : List (List ℕ)) (subpath : List ℕ) (j : Json) (c : Context) → Fit url → OutcomeFits (PACKAGE-EXPORTS-RESOLVE url conds subpath j c .outcome)
-exports-fit url conds subpath j c h = resolve-fits url conds subpath j c h .fits
+pub subpath-short : (n : ℕ) (s : List ℕ) → length s ≤ n → length (packageSubpath s) ≤ n
+unfolding packageSubpath
+subpath-short n s h = omega (arith, length-drop (length (packageName s)) s)
+
+pub strip-short : (n : ℕ) (s name t : List ℕ) → length s ≤ n → stripPackageName s name ≡ some t → length t ≤ n
+unfolding stripPackageName
+strip-short n s name t h e = by (startsWith name s && (equal (drop (length name) s) [] || startsWith (text "/") (drop (length name) s) || startsWith (text "\\") (drop (length name) s))) e
+  where
+    by : (u : Bool) → (if u then some (drop (length name) s) else none) ≡ some t → length t ≤ n
+    by true e = let x : drop (length name) s ≡ t = cc in rw (← x) (omega (arith, length-drop (length name) s))
+    by false e = absurd (let z : _≡_ {A = ℕ} 0 1 = cc in omega arith)
+
+pub dot-short : (n : ℕ) (s : List ℕ) → length s ≤ n → length (dotSubpath s) ≤ suc n
+unfolding dotSubpath
+dot-short n s h = if-short (suc n) (startsWith (text ".") s) s (text "." ++ s) (omega arith) (omega (arith, length-append (text ".") s))
+
+-- Directories -----------------------------------------------------------------------------------------------------------------------
 
 -- the directories above a path are no longer than it
 beforeLast-short : (c : ℕ) (s : List ℕ) → length (beforeLast c s) ≤ length s
@@ -210,10 +306,108 @@ pub dirs-short : (n : ℕ) (p : List ℕ) → length p ≤ n → 1 ≤ n → All
 unfolding dirs
 dirs-short n p h k = climb-short n (depth p) p h k
 
-pub manifest-short : (d : List ℕ) → length (manifestOf d) ≤ length d + 13
-unfolding manifestOf push
-manifest-short d = go (equal d [] || endsWith (text "/") d)
+-- the bytes that the components of a path come to, with a slash for each
+abbrev weight : List Component → ℕ
+weight [] = 0
+weight (rootDir ∷ cs) = 1 + weight cs
+weight (curDir ∷ cs) = weight cs
+weight (parentDir ∷ cs) = 3 + weight cs
+weight (normal c ∷ cs) = suc (length c) + weight cs
+
+weight-append : (xs ys : List Component) → weight (xs ++ ys) ≡ weight xs + weight ys
+weight-append [] ys = omega arith
+weight-append (rootDir ∷ xs) ys = omega (arith, weight-append xs ys)
+weight-append (curDir ∷ xs) ys = weight-append xs ys
+weight-append (parentDir ∷ xs) ys = omega (arith, weight-append xs ys)
+weight-append (normal c ∷ xs) ys = omega (arith, weight-append xs ys)
+
+component-weight : (s : List ℕ) → weight (component s) ≤ suc (length s)
+unfolding component
+component-weight s = by (equal s [] || equal s (text ".")) (equal s (text "..")) refl
   where
-    go : (u : Bool) → length (if u then d ++ text "package.json" else d ++ text "/" ++ text "package.json") ≤ length d + 13
-    go true = omega (arith, length-append d (text "package.json"))
-    go false = omega (arith, length-append d (text "/"), length-append (d ++ text "/") (text "package.json"))
+    by : (u v : Bool) → equal s (text "..") ≡ v → weight (if u then [] else if v then parentDir ∷ [] else normal s ∷ []) ≤ suc (length s)
+    by true v e = omega arith
+    by false true e = let x : length s ≡ 2 = ap length (equal-true s (text "..") e) in omega arith
+    by false false e = omega arith
+
+abbrev sizes : List (List ℕ) → ℕ
+sizes [] = 0
+sizes (s ∷ ss) = suc (length s) + sizes ss
+
+parts-weight : (ss : List (List ℕ)) → weight (flatMap component ss) ≤ sizes ss
+unfolding flatMap
+parts-weight [] = omega arith
+parts-weight (s ∷ ss) = omega (arith, weight-append (component s) (flatMap component ss), component-weight s, parts-weight ss)
+
+split-some : (c : ℕ) (s : List ℕ) → 1 ≤ length (split c s)
+unfolding split
+split-some c [] = omega arith
+split-some c (b ∷ s) = by (eqb b c)
+  where
+    first : (ps : List (List ℕ)) → 1 ≤ length (toFirst b ps)
+    first [] = unfold toFirst in (omega arith)
+    first (p ∷ ps) = unfold toFirst in (omega arith)
+
+    by : (u : Bool) → 1 ≤ length (if u then [] ∷ split c s else toFirst b (split c s))
+    by true = omega arith
+    by false = first (split c s)
+
+split-sizes : (s : List ℕ) → sizes (split slash s) ≡ suc (length s)
+unfolding split
+split-sizes [] = refl
+split-sizes (b ∷ s) = by (eqb b slash) (split-sizes s)
+  where
+    first : (ps : List (List ℕ)) → 1 ≤ length ps → sizes (toFirst b ps) ≡ suc (sizes ps)
+    first [] h = absurd (omega arith)
+    first (p ∷ ps) h = unfold toFirst in (omega arith)
+
+    by : (u : Bool) → sizes (split slash s) ≡ suc (length s) → sizes (if u then [] ∷ split slash s else toFirst b (split slash s)) ≡ suc (suc (length s))
+    by true h = omega arith
+    by false h = omega (arith, first (split slash s) (split-some slash s))
+
+leading-weight : (ss : List (List ℕ)) → weight (leading ss) ≤ sizes ss
+unfolding leading
+leading-weight [] = omega arith
+leading-weight (s ∷ ss) = by (equal s (text "."))
+  where
+    by : (u : Bool) → weight ((if u then curDir ∷ [] else component s) ++ flatMap component ss) ≤ sizes (s ∷ ss)
+    by true = omega (arith, parts-weight ss)
+    by false = omega (arith, weight-append (component s) (flatMap component ss), component-weight s, parts-weight ss)
+
+components-weight : (s : List ℕ) → weight (components s) ≤ 2 + length s
+unfolding components
+components-weight s = by (startsWith (text "/") s)
+  where
+    by : (u : Bool) → weight (if u then rootDir ∷ flatMap component (split slash s) else leading (split slash s)) ≤ 2 + length s
+    by true = omega (arith, parts-weight (split slash s), split-sizes s)
+    by false = omega (arith, leading-weight (split slash s), split-sizes s)
+
+push-short : (p c : List ℕ) → length (push p c) ≤ length p + suc (length c)
+unfolding push
+push-short p c =
+    if-short (length p + suc (length c)) (equal p [] || endsWith (text "/") p) (p ++ c) (p ++ text "/" ++ c)
+    (omega (arith, length-append p c)) (omega (arith, length-append p (text "/"), length-append (p ++ text "/") c))
+
+relative-short : (cs : List Component) (p : List ℕ) → length (pushRelative cs p) ≤ length p + weight cs
+unfolding pushRelative
+relative-short [] p = omega arith
+relative-short (rootDir ∷ cs) p = omega (arith, relative-short cs (text "/"))
+relative-short (curDir ∷ cs) p = relative-short cs p
+relative-short (normal c ∷ cs) p = omega (arith, relative-short cs (push p c), push-short p c)
+relative-short (parentDir ∷ cs) p =
+    let q = if pops p then parent p else push p (text "..") in
+    let h : length q ≤ length p + 3 = if-short (length p + 3) (pops p) (parent p) (push p (text "..")) (omega (arith, parent-short (suc (length p)) p (omega arith) (omega arith))) (push-short p (text "..")) in
+    omega (arith, relative-short cs q)
+
+pub climbing-short : (n : ℕ) (s t : List ℕ) → length s ≤ n → climbing s ≡ some t → length t ≤ n + 3
+unfolding climbing
+climbing-short n s t h e = by ((containsText (text "/../..") s || containsText (text "../../") s) && equal (packageName (normalizedSpecifier s)) (text "..")) e
+  where
+    whole : length (normalizedSpecifier s) ≤ n + 3
+    whole =
+        unfold normalizedSpecifier normalizeRelative in
+        (omega (arith, relative-short (components s) [], components-weight s, length-append (pushRelative (components s) []) (if endsWith (text "/") s then text "/" else []), if-short 1 (endsWith (text "/") s) (text "/") [] (omega arith) (omega arith)))
+
+    by : (u : Bool) → (if u then some (normalizedSpecifier s) else none) ≡ some t → length t ≤ n + 3
+    by true e = let x : normalizedSpecifier s ≡ t = cc in rw (← x) whole
+    by false e = absurd (let z : _≡_ {A = ℕ} 0 1 = cc in omega arith)

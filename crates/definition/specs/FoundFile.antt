@@ -1,4 +1,4 @@
--- WHAT IS FOUND IS A FILE of the listing, and it is the last consult. Assumes nothing.
+-- WHAT IS FOUND IS A FILE of the listing, and it is the last consult.
 use mathlib.Core.Path.{_≡_, refl, sym, _∙_, ap}
 use mathlib.Core.Bool.{Bool, true, false}
 use mathlib.Core.List.{List, [], _∷_, _++_, append-assoc, append-nil}

@@ -1,4 +1,4 @@
--- 01's FORMULA: the list of a lookup has at most d + 2dW consults. Assumes nothing.
+-- 01's FORMULA: the list of a lookup has at most d + 2dW consults.
 use mathlib.Core.Path.{_≡_, refl, sym, _∙_, ap, subst}
 use mathlib.Core.Bool.{Bool, true, false}
 use mathlib.Core.List.{List, [], _∷_, _++_}

@@ -12,9 +12,13 @@ pub mod Manifest
 pub mod Walk
 pub mod Called
 pub mod Reordered
+-- What is proved of them
+pub mod Theorems
 -- Laws
 pub mod TextLaws
 pub mod TextSteps
+pub mod SpecifierLaws
+pub mod SettingsLaws
 pub mod PathLaws
 pub mod PathSteps
 pub mod ListingSteps
@@ -38,6 +42,9 @@ pub mod Layout
 pub mod Laid
 pub mod SameMapLaws
 pub mod ReorderedLaws
+pub mod ExportsLaws
+pub mod InsidePackage
+pub mod StringBound
 pub mod FitLaws
 pub mod SkipSteps
 pub mod AgreeLaws
@@ -49,12 +56,13 @@ pub mod DepthLaws
 pub mod FoundFile
 pub mod WholeCall
 pub mod CallAgain
-pub mod ShortPaths
+pub mod WalkBounds
 pub mod DemandThree
 -- Examples, by computation
 pub mod Examples
 pub mod JsonExamples
 pub mod ExportsTests
+pub mod LookupExamples
 pub mod ReorderedExample
 pub mod PrintedExample
 pub mod DemandThreeExample

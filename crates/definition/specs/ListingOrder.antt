@@ -1,5 +1,5 @@
 -- A rising list of entries, and the marks of the prefixes of one path that are directory entries: what one pass over the listing
--- uses to test order and parents. Assumes nothing.
+-- uses to test order and parents.
 use mathlib.Core.Path.{_≡_, refl, sym, _∙_, ap}
 use Prim.Native.Nat.{ℕ, zero, suc, _+_, _-_, _≤_, _<_}
 use mathlib.Core.Bool.{Bool, true, false, not, _&&_, _||_, true≢false, false≢true}

@@ -1,4 +1,4 @@
--- The listing at a place: what a loop over its bytes uses, with the entry's index i and the offset of its path. Assumes nothing.
+-- The listing at a place: what a loop over its bytes uses, with the entry's index i and the offset of its path.
 use mathlib.Core.Path.{_≡_, refl, sym, _∙_, ap}
 use mathlib.Core.Bool.{Bool, true, false, not, _&&_, _||_}
 use mathlib.Core.List.{List, [], _∷_}

@@ -1,4 +1,4 @@
--- Reordered manifests are seen alike: the one obligation on manifests that demand 3 leaves. Assumes nothing.
+-- Reordered manifests are seen alike: the one obligation on manifests that demand 3 leaves.
 use mathlib.Core.Path.{_≡_, refl, sym, _∙_, ap, fun-ext}
 use mathlib.Core.Bool.{Bool, true, false}
 use mathlib.Core.List.{List, [], _∷_}

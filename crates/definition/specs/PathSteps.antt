@@ -1,4 +1,4 @@
--- Parents, names and components at places of a slice. Assumes nothing.
+-- Parents, names and components at places of a slice.
 use mathlib.Core.Path.{_≡_, refl, sym, _∙_, ap}
 use Prim.Native.Nat.{ℕ, zero, suc, _+_, _-_, _≤_, _<_}
 use mathlib.Core.Bool.{Bool, true, false, not, _&&_, _||_, or-true}

@@ -1,4 +1,4 @@
--- 01's printed example, from bytes, by computation. Assumes nothing.
+-- 01's printed example, from bytes, by computation.
 use mathlib.Core.Path.{_≡_, refl}
 use mathlib.Core.Bool.{Bool, true, false}
 use mathlib.Core.List.{List, [], _∷_, _++_, map}
@@ -20,18 +20,18 @@ nums : List ℕ → List ℕ → List ℕ
 nums [] s = s
 nums (n ∷ ns) s = num n (nums ns s)
 
-tree : List ℕ
+pub tree : List ℕ
 tree =
     num 7 (num 156 (nums (1 ∷ 2 ∷ 15 ∷ 19 ∷ 23 ∷ 32 ∷ 32 ∷ []) (nums (4294967295 ∷ 4294967295 ∷ 4294967295 ∷ 4294967295 ∷ 4294967295 ∷ 0 ∷ 32 ∷ [])
     (text "/" ++ text "/p" ++ text "/p/node_modules" ++ text "/p/node_modules/mat" ++ text "/p/node_modules/mat/lib" ++ text "/p/node_modules/mat/lib/steel.js" ++ text "/p/node_modules/mat/package.json" ++ text "{\"exports\":{\"./*\":\"./lib/*.js\"}}"))))
 
-settings : List ℕ
+pub settings : List ℕ
 settings = 1 ∷ 1 ∷ 1 ∷ 1 ∷ 1 ∷ 6 ∷ 3 ∷ 4 ∷ 5 ∷ 7 ∷ text "import.jsmainindexexports"
 
-asked : Question
+pub asked : Question
 asked = record { listing = tree; settings = settings; start = text "/p"; specifier = text "mat/steel" }
 
-shown : Consult → ℕ × Text
+pub shown : Consult → ℕ × Text
 shown c = (c .state, c .path)
 
 is-accepted : accepted tree ≡ true
@@ -42,11 +42,11 @@ is-sound : passes24 settings ≡ true
 unfolding settings-computes settings
 is-sound = refl
 
-printed : map shown (listOf asked) ≡ (0, text "/p/package.json") ∷ (0, text "/package.json") ∷ (1, text "/p") ∷ (1, text "/p/node_modules") ∷ (1, text "/p/node_modules/mat") ∷ (3, text "/p/node_modules/mat/package.json") ∷ (2, text "/p/node_modules/mat/lib/steel.js") ∷ []
+pub printed : map shown (listOf asked) ≡ (0, text "/p/package.json") ∷ (0, text "/package.json") ∷ (1, text "/p") ∷ (1, text "/p/node_modules") ∷ (1, text "/p/node_modules/mat") ∷ (3, text "/p/node_modules/mat/package.json") ∷ (2, text "/p/node_modules/mat/lib/steel.js") ∷ []
 unfolding definition-computes num nums tree settings asked shown
 printed = refl
 
-printed-end : endOf asked ≡ found (record { path = text "/p/node_modules/mat/lib/steel.js"; query = []; fragment = [] })
+pub printed-end : endOf asked ≡ found (record { path = text "/p/node_modules/mat/lib/steel.js"; query = []; fragment = [] })
 unfolding definition-computes num nums tree settings asked
 printed-end = refl
 

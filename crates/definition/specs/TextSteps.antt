@@ -1,4 +1,4 @@
--- The tests of `Text` at a place of a slice: what a loop over the bytes uses. Assumes nothing.
+-- The tests of `Text` at a place of a slice: what a loop over the bytes uses.
 use mathlib.Core.Path.{_≡_, refl, sym, _∙_, ap}
 use Prim.Native.Nat.{ℕ, zero, suc, _+_, _-_, _≤_, _<_, min}
 use mathlib.Core.Bool.{Bool, true, false, _&&_, _||_, and-false, or-true}
@@ -217,6 +217,20 @@ unfolding startsWith equal
 startsWith-equal [] s h = refl
 startsWith-equal (a ∷ p) [] h = let z : ⊥ = omega arith in absurd z
 startsWith-equal (a ∷ p) (b ∷ s) h = rw (startsWith-equal p s (omega arith))
+
+-- a list from a place on: its element there, and the list from the next place on
+pub drop-next : {A : Type 0} (l : List A) (i : ℕ) (z : A) → i < length l → drop i l ≡ getD l i z ∷ drop (i + 1) l
+drop-next l i z h = rw (add-one i) (drop-cons l i z h)
+
+-- as many as there are, where more are asked for
+pub take-clip : {A : Type 0} (s : List A) (at n m : ℕ) → m ≡ min n (length s - at) → take m (drop at s) ≡ take n (drop at s)
+take-clip s at n m e = go (leb n (length s - at)) refl
+  where
+    go : (t : Bool) → leb n (length s - at) ≡ t → take m (drop at s) ≡ take n (drop at s)
+    go true h = let k : n ≤ length s - at = leb-true _ _ h in let f : m ≡ n = omega arith in rw f
+    go false h =
+        let k : length s - at < n = leb-false _ _ h in
+        rw (take-all m (drop at s) (omega (arith, length-drop at s)), take-all n (drop at s) (omega (arith, length-drop at s)))
 
 -- the part of a slice from a place to its end
 pub part-rest : {A : Type 0} (s : List A) (at : ℕ) → take (length s - at) (drop at s) ≡ drop at s

@@ -1,4 +1,4 @@
--- Agreement where a routine sees of a manifest only a view, and views are the same for related bytes. Assumes nothing.
+-- Agreement where a routine sees of a manifest only a view, and views are the same for related bytes.
 use mathlib.Core.Path.{_≡_, refl, sym, _∙_, ap}
 use mathlib.Core.List.{List, [], _∷_, List·Memᴰ}
 use mathlib.Core.Option.{Option, none, some}

@@ -1,4 +1,4 @@
--- DEMAND 1 of `called`: its number is one of 01's, it fills each buffer to its end, and a refusal leaves zeros. Assumes nothing.
+-- DEMAND 1 of `called`: its number is one of 01's, it fills each buffer to its end, and a refusal leaves zeros.
 use mathlib.Core.Path.{_≡_, refl, sym, _∙_, ap}
 use mathlib.Core.Bool.{Bool, true, false, not, _&&_, _||_, true≢false}
 use mathlib.Core.List.{List, [], _∷_, _++_, map}
@@ -24,22 +24,23 @@ isAnswerNumber n = leb n 7
 unfoldable pub isRefusalNumber : ℕ → Bool
 isRefusalNumber n = (leb 20 n && leb n 25) || (leb 30 n && leb n 32) || (leb 40 n && leb n 42)
 
--- an answer, or a refusal with zeros; the buffers are filled to their ends
+-- the buffers are filled to their ends; and the call ends in an answer, with the texts and the list of e and c and zeros behind them, or in a
+-- refusal with zeros in all of it
 pub record Filled (m : Rooms) (l : Left) : Type 0 where
   pub result : length (l .result) ≡ m .result
   pub numbers : length (l .numbers) ≡ m .numbers
   pub list : length (l .list) ≡ m .list
   pub work : l .work ≡ replicate (m .work) 0
 
-pub data Ended (m : Rooms) (l : Left) : Type 0 where
-  answers : isAnswerNumber (l .number) ≡ true → Ended m l
-  refuses : isRefusalNumber (l .number) ≡ true → l ≡ zeros m (l .number) → Ended m l
+pub data Ended (m : Rooms) (e : End) (c : List Consult) (l : Left) : Type 0 where
+  answers : isAnswerNumber (l .number) ≡ true → l ≡ written m e c → Ended m e c l
+  refuses : isRefusalNumber (l .number) ≡ true → l ≡ zeros m (l .number) → Ended m e c l
 
 zeros-filled : (m : Rooms) (n : ℕ) → Filled m (zeros m n)
 unfolding zeros
 zeros-filled m n = record { result = length-replicate (m .result) 0; numbers = length-replicate (m .numbers) 0; list = length-replicate (m .list) 0; work = refl }
 
-zeros-ended : (m : Rooms) (n : ℕ) → isRefusalNumber n ≡ true → Ended m (zeros m n)
+zeros-ended : {e : End} {c : List Consult} (m : Rooms) (n : ℕ) → isRefusalNumber n ≡ true → Ended m e c (zeros m n)
 unfolding zeros
 zeros-ended m n h = refuses h refl
 
@@ -65,29 +66,29 @@ end-listed (stopped (refused manifestBeyond)) = (λ h. cc, λ h. refl)
 end-listed (stopped (refused nameTwice)) = (λ h. cc, λ h. refl)
 end-listed (stopped (refused pathTooLong)) = (λ h. cc, λ h. refl)
 
-abbrev Both : Rooms → Left → Type 0
-Both m l = Ended m l × Filled m l
+abbrev Both : Rooms → End → List Consult → Left → Type 0
+Both m e c l = Ended m e c l × Filled m l
 
 or-false : (a b : Bool) → a || b ≡ false → (a ≡ false) × (b ≡ false)
 or-false true b h = (h, absurd (true≢false h))
 or-false false b h = (refl, h)
 
-delivered-whole : (m : Rooms) (e : End) (l : List Consult) → Both m (delivered m e l)
+delivered-whole : (m : Rooms) (e : End) (l : List Consult) → Both m e l (delivered m e l)
 unfolding delivered written isRefusalNumber
 delivered-whole m e l = by (isAnswer e) refl (ltb (m .result) (length (joined (endTexts e)))) refl (ltb (m .numbers) (length (listNumbers l)) || ltb (m .list) (length (joined (paths l)))) refl
   where
-    refusal : (n : ℕ) → isRefusalNumber n ≡ true → Both m (zeros m n)
+    refusal : (n : ℕ) → isRefusalNumber n ≡ true → Both m e l (zeros m n)
     refusal n h = (zeros-ended m n h, zeros-filled m n)
 
     by : (a : Bool) → isAnswer e ≡ a → (b : Bool) → ltb (m .result) (length (joined (endTexts e))) ≡ b
         → (c : Bool) → ltb (m .numbers) (length (listNumbers l)) || ltb (m .list) (length (joined (paths l))) ≡ c
-        → Both m (if not a then zeros m (endNumber e) else if b then zeros m 20 else if c then zeros m 21 else written m e l)
+        → Both m e l (if not a then zeros m (endNumber e) else if b then zeros m 20 else if c then zeros m 21 else written m e l)
     by false x b y c z = refusal (endNumber e) (end-listed e .1 x)
     by true x true y c z = refusal 20 refl
     by true x false y true z = refusal 21 refl
     by true x false y false z =
         let o = or-false (ltb (m .numbers) (length (listNumbers l))) (ltb (m .list) (length (joined (paths l)))) z in (
-          answers (end-listed e .0 x),
+          answers (end-listed e .0 x) refl,
           record {
             result = length-padded (m .result) (joined (endTexts e)) (ltb-false _ _ y);
             numbers = length-padded (m .numbers) (listNumbers l) (ltb-false _ _ (o .0));
@@ -97,8 +98,8 @@ delivered-whole m e l = by (isAnswer e) refl (ltb (m .result) (length (joined (e
         )
 
 -- every refusal before the lookup is one of 01's
-checks : (m : Rooms) (l : Left) → Both m l → (a b c d e f g : Bool)
-    → Both m (unlessRefused m (check a 25 (check b 24 (check c 30 (check d 31 (check e 32 (check f 22 (check g 23 none))))))) l)
+checks : {w : End} {v : List Consult} (m : Rooms) (l : Left) → Both m w v l → (a b c d e f g : Bool)
+    → Both m w v (unlessRefused m (check a 25 (check b 24 (check c 30 (check d 31 (check e 32 (check f 22 (check g 23 none))))))) l)
 unfolding unlessRefused isRefusalNumber
 checks m l h false b c d e f g = (zeros-ended m 25 refl, zeros-filled m 25)
 checks m l h true false c d e f g = (zeros-ended m 24 refl, zeros-filled m 24)
@@ -109,7 +110,7 @@ checks m l h true true true true true false g = (zeros-ended m 22 refl, zeros-fi
 checks m l h true true true true true true false = (zeros-ended m 23 refl, zeros-filled m 23)
 checks m l h true true true true true true true = h
 
-pub called-whole : (q : Question) (m : Rooms) → Ended m (called q m) × Filled m (called q m)
+pub called-whole : (q : Question) (m : Rooms) → Ended m (endOf q) (listOf q) (called q m) × Filled m (called q m)
 unfolding called refusalOf
 called-whole q m =
     checks m (delivered m (endOf q) (listOf q)) (delivered-whole m (endOf q) (listOf q)) (leb 32768 (m .work)) (passes24 (q .settings)) (passes30 (q .listing)) (passes31 (q .listing)) (passes32 (q .listing)) (isSpecifier (q .specifier)) (isDirectoryOf (q .listing) (q .start))

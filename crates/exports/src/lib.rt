@@ -1,14 +1,18 @@
 // The exports algorithms of the Node.js documents, as lib.rs has them.
+use path::PathBuf;
 ghost use mathlib.Core.Path.{_≡_};
-ghost use mathlib.Core.List.{List, []};
+ghost use mathlib.Core.List.{List, [], _++_};
 ghost use Prim.Native.Nat.{ℕ, _+_, _-_, _≤_, _<_, suc};
 ghost use lib.ListN.{length, drop, take};
 ghost use mathlib.Core.Bool.{_&&_, _||_};
 ghost use lib.Dec.{leb};
-ghost use Rattle.definition.specs.Text.{equal, endsWith};
-ghost use Rattle.definition.specs.Exports.{patternKeyCompare, isSubpathKey, starMatch, patternMatch, orOld, withQueryFragment};
+ghost use Rattle.definition.specs.Text.{star, equal, endsWith, replace};
+ghost use Rattle.definition.specs.Path.{limited};
+ghost use Rattle.path.specs.Meaning.{pathOf};
+ghost use Rattle.definition.specs.Exports.{PATTERN-KEY-COMPARE, isSubpathKey, starMatch, patternMatch, orOld, withQueryFragment, Request, target, targetPath, normalizeStringTarget};
 ghost use Rattle.exports.specs.Keys.{rankOf, orderOf, matchOf};
 ghost use Rattle.exports.specs.Contexts.{contextOf};
+ghost use Rattle.exports.specs.Answers.{answerOf, resolved, Asked};
 
 pub enum Order {
     Less,
@@ -44,7 +48,7 @@ fn rank_of(key: &[u8]) -> Rank
 
 // The longer base comes first, then a pattern, then the longer key. The empty key comes behind every other.
 fn compare(a: Rank, b: Rank) -> Order
-    ensures { λ r. ⌜ ((k l : List ℕ) → a ≡ rankOf k → b ≡ rankOf l → orderOf r ≡ patternKeyCompare k l) ⌝ }
+    ensures { λ r. ⌜ ((k l : List ℕ) → a ≡ rankOf k → b ≡ rankOf l → orderOf r ≡ PATTERN-KEY-COMPARE k l) ⌝ }
 {
     if a.base > b.base {
         return Order::Less;
@@ -68,7 +72,7 @@ fn compare(a: Rank, b: Rank) -> Order
 }
 
 pub fn pattern_key_compare(a: &[u8], b: &[u8]) -> Order
-    ensures { λ r. ⌜ orderOf r ≡ patternKeyCompare (now (a .entry)) (now (b .entry)) ⌝ }
+    ensures { λ r. ⌜ orderOf r ≡ PATTERN-KEY-COMPARE (now (a .entry)) (now (b .entry)) ⌝ }
 {
     compare(rank_of(a), rank_of(b))
 }
@@ -201,5 +205,136 @@ impl Context {
         let k = self.flen;
         self.flen = put(&mut self.fragment, k, fragment);
         self
+    }
+}
+
+// The target with every star replaced by the pattern match.
+fn substitute(t: &[u8], pattern: &[u8]) -> PathBuf
+    ensures { λ r. ⌜ pathOf r ≡ limited (replace star (now (pattern .entry)) (now (t .entry))) ⌝ }
+{
+    let mut bytes = [0u8; 2048];
+    let mut n: usize = 0;
+    let mut i: usize = 0;
+    while i < t.len() {
+        let b = t[i];
+        if b == b'*' {
+            if pattern.len() > 2048 - n {
+                return PathBuf { bytes, len: 2049 };
+            }
+            text::copy_at(&mut bytes, n, pattern);
+            n += pattern.len();
+            i += 1;
+        } else {
+            if n >= 2048 {
+                return PathBuf { bytes, len: 2049 };
+            }
+            bytes[n] = b;
+            n += 1;
+            i += 1;
+        }
+    }
+    PathBuf { bytes, len: n }
+}
+
+// How the resolution of a target ended. With the path that was found, or the target that a failure speaks of.
+pub enum Outcome {
+    Found,
+    Nothing,
+    Empty,
+    InvalidTarget,
+    // an empty array: the match, or ".", is not exported
+    NotExportedMatch,
+    NotExported,
+    ConfigMixed,
+    ConfigDirectory,
+    OverLong,
+}
+
+pub struct Answer {
+    pub context: Context,
+    pub path: PathBuf,
+    pub outcome: Outcome,
+}
+
+// The key that leads to a target: without a pattern match, with a star, or a folder.
+pub enum Form {
+    Plain,
+    Starred,
+    Folder,
+}
+
+fn without_path(c: Context, outcome: Outcome) -> Answer
+    ensures { λ r. ⌜ (r .context ≡ c) × (r .outcome ≡ outcome) ⌝ }
+{
+    Answer {
+        context: c,
+        path: PathBuf::new(),
+        outcome,
+    }
+}
+
+// A target, with the match put in, below the package's directory.
+fn target_path(url: &[u8], t: &[u8], c: Context) -> Answer
+    ensures { λ r. ⌜ ((q : Request) → q .packageURL ≡ now (url .entry) → answerOf q r ≡ resolved c (targetPath q (target (now (t .entry))))) ⌝ }
+{
+    if t.len() > 2048 {
+        return without_path(c, Outcome::OverLong);
+    }
+    if path::is_invalid_exports_target(t) {
+        return Answer {
+            context: c,
+            path: PathBuf::from(t),
+            outcome: Outcome::InvalidTarget,
+        };
+    }
+    let path = path::normalize_with(url, t);
+    if path.len > 2048 {
+        return without_path(c, Outcome::OverLong);
+    }
+    Answer {
+        context: c,
+        path,
+        outcome: Outcome::Found,
+    }
+}
+
+fn starred_target(url: &[u8], t: &[u8], pattern: &[u8], c: Context) -> Answer
+    ensures { λ r. ⌜ ((q : Request) → q .packageURL ≡ now (url .entry) → answerOf q r ≡ resolved c (targetPath q (target (replace star (now (pattern .entry)) (now (t .entry)))))) ⌝ }
+{
+    let p = substitute(t, pattern);
+    let n = p.len;
+    if n > 2048 {
+        return without_path(c, Outcome::OverLong);
+    }
+    target_path(url, path::first(&p.bytes, n), c)
+}
+
+fn folder_target(url: &[u8], t: &[u8], pattern: &[u8], c: Context) -> Answer
+    ensures { λ r. ⌜ ((q : Request) → q .packageURL ≡ now (url .entry) → answerOf q r ≡ resolved c (targetPath q (target (now (t .entry) ++ now (pattern .entry))))) ⌝ }
+{
+    let p = PathBuf::from(t).append(pattern);
+    let n = p.len;
+    if n > 2048 {
+        return without_path(c, Outcome::OverLong);
+    }
+    target_path(url, path::first(&p.bytes, n), c)
+}
+
+// `normalize_string_target`, and what it gives.
+fn normalized_target(url: &[u8], form: Form, pattern: &[u8], t: &[u8], c: Context) -> Answer
+    ensures { λ r. ⌜ ((q : Request) → Asked q (now (url .entry)) form (now (pattern .entry)) → answerOf q r ≡ resolved c (targetPath q (normalizeStringTarget (q .key) (now (t .entry)) (q .matched)))) ⌝ }
+{
+    match form {
+        Form::Plain => target_path(url, t, c),
+        Form::Starred => starred_target(url, t, pattern, c),
+        Form::Folder => {
+            if text::contains(t, b'*') {
+                return starred_target(url, t, pattern, c);
+            }
+            if text::ends_with(t, b"/") {
+                return folder_target(url, t, pattern, c);
+            }
+            without_path(c, Outcome::ConfigDirectory)
+        }
     }
 }

@@ -2,7 +2,7 @@
 ghost use mathlib.Core.Path.{_≡_};
 ghost use mathlib.Core.List.{List, _∷_};
 ghost use Prim.Native.Nat.{ℕ, _+_, _-_, _≤_, _<_, min};
-ghost use lib.ListN.{length, drop, getD};
+ghost use lib.ListN.{length, drop, take, getD};
 ghost use Rattle.definition.specs.Text.{equal, equalIgnoringCase, lowerCase, smaller, startsWith, endsWith, count, contains, containsText, before, beforeLast, overwrite, zeroFrom, due, dueAfter, isUtf8From, isUtf8};
 ghost use Rattle.text.specs.Meaning.{meant};
 
@@ -162,8 +162,8 @@ pub fn rfind(s: &[u8], b: u8) -> usize
     s.len()
 }
 
-// How many of n elements have room in a buffer from a place on.
-fn room(size: usize, at: usize, n: usize) -> usize
+// How many of n elements have room from a place on, where there are `size` in all.
+pub fn room(size: usize, at: usize, n: usize) -> usize
     ensures { λ r. ⌜ r ≡ min n (size - at) ⌝ }
 {
     if size <= at {
@@ -173,6 +173,17 @@ fn room(size: usize, at: usize, n: usize) -> usize
         return n;
     }
     size - at
+}
+
+// The n bytes from a place on, as far as s reaches.
+pub fn part(s: &[u8], at: usize, n: usize) -> &[u8]
+    ensures { λ r. ⌜ now r ≡ take n (drop at (now (s .entry))) ⌝ }
+{
+    if s.len() <= at {
+        return &s[0..0];
+    }
+    let end = at + room(s.len(), at, n);
+    &s[at..end]
 }
 
 // Puts src at a place of dst, as far as dst reaches.
