@@ -20,7 +20,7 @@ use Rattle.resolver.specs.declared.Near.{Near}
 use Rattle.resolver.specs.declared.Near.the-variants.{Nowhere, At, TooLong}
 use Rattle.definition.specs.Settings.{Settings}
 use Rattle.definition.specs.Manifest.{Place}
-use Rattle.definition.specs.Walk.{Look, made, tryFile}
+use Rattle.definition.specs.Walk.{Look, forEach, made, tryFile, tryIndex}
 use Rattle.resolver.specs.Tape.{Tape}
 use Rattle.resolver.specs.declared.Ending.{Ending}
 use Rattle.resolver.specs.declared.Mark.{Mark}
@@ -91,3 +91,7 @@ abbrev pub soughtOf : Settings → List ℕ → Text → Near → Step Ending (O
 soughtOf G l dir Nowhere = go none
 soughtOf G l dir (At n a e) = go (some (record { dir = take n dir; sees = view G (part l a e) }))
 soughtOf G l dir TooLong = stop (numbers 42 [] [] [])
+
+-- LOAD_INDEX with one main file
+unfoldable pub loadMainFile : Settings → Place → Text → Look (Unit {0})
+loadMainFile G w f = forEach (G .extensions) (tryIndex G w f)

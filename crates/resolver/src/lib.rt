@@ -1,20 +1,21 @@
 // The walk of lib.rs: LOAD_AS_FILE to LOAD_NODE_MODULES over a lent listing. Each consult is written to the lent list as it is made.
 use path::PathBuf;
+use settings::Kind;
 ghost use mathlib.Core.Path.{_≡_};
-ghost use mathlib.Core.List.{List, _++_};
+ghost use mathlib.Core.List.{List, [], _++_};
 ghost use Prim.Native.Nat.{ℕ, _+_, min};
-ghost use lib.ListN.{set};
+ghost use lib.ListN.{set, getD};
 ghost use Rattle.definition.specs.Text.{overwrite};
 ghost use Rattle.definition.specs.Path.{depth, dirs};
-ghost use Rattle.definition.specs.Ask.{asked, opened, go};
+ghost use Rattle.definition.specs.Ask.{asked, opened};
 ghost use Rattle.definition.specs.Listing.{entryAt};
-ghost use Rattle.definition.specs.Settings.{Settings};
+ghost use Rattle.definition.specs.Settings.{Settings, textsOf, settingsOf};
 ghost use Rattle.definition.specs.Called.{seenBy};
-ghost use Rattle.definition.specs.Walk.{isFile, tryFile};
+ghost use Rattle.definition.specs.Walk.{tryFile, tryExtension, LOAD-AS-FILE, tryIndex, LOAD-INDEX};
 ghost use Rattle.listing.specs.Meaning.{seen};
 ghost use Rattle.path.specs.Meaning.{pathOf};
 ghost use Rattle.resolver.specs.Tape.{most, packed, put, Done};
-ghost use Rattle.resolver.specs.Meaning.{tapeOf, consultOf, stepOf, place, numbers, refusal, tryPath, manifestFound, manifestIn, readOf, seek, soughtOf};
+ghost use Rattle.resolver.specs.Meaning.{tapeOf, consultOf, stepOf, place, numbers, refusal, tryPath, manifestFound, manifestIn, readOf, seek, soughtOf, loadMainFile};
 
 // How a lookup ended: the number of document 01, and the lengths of its texts, which stand in the result text.
 pub struct Ending {
@@ -324,4 +325,146 @@ fn depth(p: &[u8]) -> usize
         return 0;
     }
     text::count(p, b'/')
+}
+
+// LOAD_AS_FILE, step 2: the path with the i-th extension behind it.
+fn try_extension<'a>(
+    l: &[u8],
+    s: &[u8],
+    i: usize,
+    path: &[u8],
+    query: &'a [u8],
+    fragment: &'a [u8],
+    result: &mut [u8],
+    nums: &mut [u32],
+    text: &mut [u8],
+    m: Mark,
+) -> Out
+    ensures { λ r. ⌜ ((G : Settings) → Done (seenBy G (now (l .entry))) (tryExtension G (place (now (path .entry)) (now (query .entry)) (now (fragment .entry))) (getD (textsOf (now (s .entry)) 1) i [])) (tapeOf (now (result .entry)) (now (nums .entry)) (now (text .entry)) m) (tapeOf (now (result .exit)) (now (nums .exit)) (now (text .exit)) (r .mark)) (stepOf (r .way))) ⌝ }
+{
+    let p = PathBuf::from(path).append(settings::text(s, Kind::Extensions, i));
+    try_path(l, p, query, fragment, result, nums, text, m)
+}
+
+// LOAD_AS_FILE(X)
+fn load_as_file<'a>(
+    l: &[u8],
+    s: &[u8],
+    path: &[u8],
+    query: &'a [u8],
+    fragment: &'a [u8],
+    result: &mut [u8],
+    nums: &mut [u32],
+    text: &mut [u8],
+    m: Mark,
+) -> Out
+    ensures { λ r. ⌜ Done (seenBy (settingsOf (now (s .entry))) (now (l .entry))) (LOAD-AS-FILE (settingsOf (now (s .entry))) (place (now (path .entry)) (now (query .entry)) (now (fragment .entry)))) (tapeOf (now (result .entry)) (now (nums .entry)) (now (text .entry)) m) (tapeOf (now (result .exit)) (now (nums .exit)) (now (text .exit)) (r .mark)) (stepOf (r .way)) ⌝ }
+{
+    let first = try_file(l, path, query, fragment, result, nums, text, m);
+    let way = first.way;
+    let Way::Next = way else {
+        return first;
+    };
+    let mut mark = first.mark;
+    let n = settings::count(s, Kind::Extensions);
+    let mut i = 0;
+    while i < n {
+        let out = try_extension(l, s, i, path, query, fragment, result, nums, text, mark);
+        let way = out.way;
+        let Way::Next = way else {
+            return out;
+        };
+        mark = out.mark;
+        i += 1;
+    }
+    Out {
+        way: Way::Next,
+        mark,
+    }
+}
+
+// LOAD_INDEX, one main file of the settings with the i-th extension.
+fn try_index<'a>(
+    l: &[u8],
+    s: &[u8],
+    file: &[u8],
+    i: usize,
+    path: &[u8],
+    query: &'a [u8],
+    fragment: &'a [u8],
+    result: &mut [u8],
+    nums: &mut [u32],
+    text: &mut [u8],
+    m: Mark,
+) -> Out
+    ensures { λ r. ⌜ ((G : Settings) → Done (seenBy G (now (l .entry))) (tryIndex G (place (now (path .entry)) (now (query .entry)) (now (fragment .entry))) (now (file .entry)) (getD (textsOf (now (s .entry)) 1) i [])) (tapeOf (now (result .entry)) (now (nums .entry)) (now (text .entry)) m) (tapeOf (now (result .exit)) (now (nums .exit)) (now (text .exit)) (r .mark)) (stepOf (r .way))) ⌝ }
+{
+    let p = PathBuf::from(path).append_main_file(file, settings::text(s, Kind::Extensions, i));
+    try_path(l, p, query, fragment, result, nums, text, m)
+}
+
+// LOAD_INDEX, one main file with each extension.
+fn load_main_file<'a>(
+    l: &[u8],
+    s: &[u8],
+    file: &[u8],
+    path: &[u8],
+    query: &'a [u8],
+    fragment: &'a [u8],
+    result: &mut [u8],
+    nums: &mut [u32],
+    text: &mut [u8],
+    m: Mark,
+) -> Out
+    ensures { λ r. ⌜ Done (seenBy (settingsOf (now (s .entry))) (now (l .entry))) (loadMainFile (settingsOf (now (s .entry))) (place (now (path .entry)) (now (query .entry)) (now (fragment .entry))) (now (file .entry))) (tapeOf (now (result .entry)) (now (nums .entry)) (now (text .entry)) m) (tapeOf (now (result .exit)) (now (nums .exit)) (now (text .exit)) (r .mark)) (stepOf (r .way)) ⌝ }
+{
+    let mut mark = m;
+    let n = settings::count(s, Kind::Extensions);
+    let mut i = 0;
+    while i < n {
+        let out = try_index(l, s, file, i, path, query, fragment, result, nums, text, mark);
+        let way = out.way;
+        let Way::Next = way else {
+            return out;
+        };
+        mark = out.mark;
+        i += 1;
+    }
+    Out {
+        way: Way::Next,
+        mark,
+    }
+}
+
+// LOAD_INDEX(X)
+fn load_index<'a>(
+    l: &[u8],
+    s: &[u8],
+    path: &[u8],
+    query: &'a [u8],
+    fragment: &'a [u8],
+    result: &mut [u8],
+    nums: &mut [u32],
+    text: &mut [u8],
+    m: Mark,
+) -> Out
+    ensures { λ r. ⌜ Done (seenBy (settingsOf (now (s .entry))) (now (l .entry))) (LOAD-INDEX (settingsOf (now (s .entry))) (place (now (path .entry)) (now (query .entry)) (now (fragment .entry)))) (tapeOf (now (result .entry)) (now (nums .entry)) (now (text .entry)) m) (tapeOf (now (result .exit)) (now (nums .exit)) (now (text .exit)) (r .mark)) (stepOf (r .way)) ⌝ }
+{
+    let mut mark = m;
+    let n = settings::count(s, Kind::MainFiles);
+    let mut i = 0;
+    while i < n {
+        let file = settings::text(s, Kind::MainFiles, i);
+        let out = load_main_file(l, s, file, path, query, fragment, result, nums, text, mark);
+        let way = out.way;
+        let Way::Next = way else {
+            return out;
+        };
+        mark = out.mark;
+        i += 1;
+    }
+    Out {
+        way: Way::Next,
+        mark,
+    }
 }
