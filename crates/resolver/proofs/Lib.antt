@@ -2,3 +2,4 @@ pub mod Laws
 pub mod Steps
 pub mod Climbs
 pub mod Files
+pub mod Ways

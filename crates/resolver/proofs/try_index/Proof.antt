@@ -1,3 +1,6 @@
+use mathlib.Core.Path.{_∙_, ap}
+use Rattle.definition.specs.Path.{andPath, addNameAndExtension}
+use Rattle.resolver.proofs.Files.{index-tried}
 use borrow.Author.Needs.{needs}
 use Rattle.resolver.proofs.try_index.Statement.{statement}
 use Rattle.resolver.proofs.try_index.Tie as tie
@@ -8,47 +11,17 @@ use Rattle.path.proofs.PathBuf.from.Reads as from-reads
 use Rattle.resolver.proofs.try_path.Reads as try-path-reads
 use Rattle.settings.proofs.text.Reads as text-reads
 
--- src/lib.rt:402:13
-from-requires : tie.Need-from-requires
-from-requires c κs = search needs
-
--- src/lib.rt:402:56
-text-requires : tie.Need-text-requires
-text-requires c κs = search needs
-
--- src/lib.rt:402:9
-append-main-file-requires : tie.Need-append-main-file-requires
-append-main-file-requires c κs = search needs
-
--- src/lib.rt:403:5
-try-path-requires : tie.Need-try-path-requires
-try-path-requires c κs = search needs
-
--- src/lib.rt:387:1
-same-length : tie.Need-same-length
-same-length c = search needs
-
--- src/lib.rt:387:1
-same-length-2 : tie.Need-same-length-2
-same-length-2 c = search needs
-
--- src/lib.rt:387:1
-same-length-3 : tie.Need-same-length-3
-same-length-3 c = search needs
-
--- src/lib.rt:387:1
-returns : tie.Need-returns
-returns c = ?
-
 pub try-index-spec : {M : Type 1} → statement M
 try-index-spec =
     tie.close
     (tie.spec
-    from-requires
-    text-requires
-    append-main-file-requires
-    try-path-requires
-    same-length
-    same-length-2
-    same-length-3
-    returns)
+    (λ c κs. search needs)
+    (λ c κs. search needs)
+    (λ c κs. search needs)
+    (λ c κs. search needs)
+    (λ c. search needs)
+    (λ c. search needs)
+    (λ c. search needs)
+    (λ c.
+        let b = c .before .before .before .before .before .before .before .before .before .before .append-main-file .ensures ∙ ap (λ x. andPath x (λ p. addNameAndExtension p (c .before .before .before .before .before .before .before .before .before .before .before .before .before .before .before .before .before .before .before .before .before .before .args .file .now) (c .before .before .before .before .before .before .before .before .before .before .before .text .result .now))) (c .before .before .before .before .before .before .before .before .before .before .before .before .from .ensures) in
+        λ G. index-tried G _ _ _ _ (c .before .before .before .before .before .before .try-path .ensures G) _ _ (rw (c .before .before .before .before .before .before .before .before .before .before .before .text .ensures) at b)))
