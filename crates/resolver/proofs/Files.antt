@@ -12,11 +12,11 @@ use lib.Seq.{drop-cons}
 use Rattle.definition.specs.Text.{Text, text, if_then_else_}
 use Rattle.definition.specs.Path.{Built, built, tooLong, andPath, limited, addExtension, addNameAndExtension}
 use Rattle.definition.specs.Settings.{Settings}
-use Rattle.definition.specs.Ask.{Listing, Step, go, stop, _>>=_}
+use Rattle.definition.specs.Ask.{Listing, Step, go, stop, _>>=_, _>>_}
 use Rattle.definition.specs.Manifest.{Place}
-use Rattle.definition.specs.Walk.{Look, forEach, at, tryExtension, tryIndex}
+use Rattle.definition.specs.Walk.{Look, forEach, at, tryFile, tryExtension, LOAD-AS-FILE, tryIndex}
 use Rattle.resolver.specs.declared.Ending.{Ending}
-use Rattle.resolver.specs.Tape.{Tape, Done}
+use Rattle.resolver.specs.Tape.{Tape, Done, done-bind, done-stop}
 use Rattle.resolver.specs.Loop.{Left, left-start, left-again, left-stop, left-end}
 use Rattle.resolver.specs.Meaning.{Sees, place, tryPath}
 
@@ -53,3 +53,13 @@ left-texts z l i h = rw (add-one i) (drop-cons l i z h)
 
 pub none-left : {A : Type 0} (l : List A) (i : ℕ) → length l ≤ i → drop i l ≡ []
 none-left l i h = drop-of-length-le l h
+
+-- LOAD_AS_FILE: the file itself ended the lookup, or the extensions follow
+module _ (G : Settings) {L : Listing Sees} (w : Place) {s s₁ : Tape} {q : Step Ending (Unit {0})} (d : Done L (tryFile G w) s s₁ q) where
+  pub file-ended : (x : Ending) → q ≡ stop x → Done L (LOAD-AS-FILE G w) s s₁ q
+  unfolding LOAD-AS-FILE _>>_
+  file-ended x e = rw e (done-stop _ (rw e at d))
+
+  pub file-then : {s₂ : Tape} {r : Step Ending (Unit {0})} → q ≡ go tt → Done L (forEach (G .extensions) (tryExtension G w)) s₁ s₂ r → Done L (LOAD-AS-FILE G w) s s₂ r
+  unfolding LOAD-AS-FILE _>>_
+  file-then e rest = done-bind _ (rw e at d) rest

@@ -422,7 +422,19 @@ fn load_main_file<'a>(
     let n = settings::count(s, Kind::Extensions);
     let mut i = 0;
     while i < n {
-        let out = try_index(l, s, file, i, path, query, fragment, result, nums, text, mark);
+        let out = try_index(
+            l,
+            s,
+            file,
+            i,
+            path,
+            query,
+            fragment,
+            result,
+            nums,
+            text,
+            mark,
+        );
         let way = out.way;
         let Way::Next = way else {
             return out;

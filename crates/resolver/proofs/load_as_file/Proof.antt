@@ -1,3 +1,17 @@
+-- The loop's invariant: whatever finishes the extensions from i on finishes all of them from where the loop began.
+use mathlib.Core.Path.{_≡_, refl, sym, _∙_, ap}
+use mathlib.Core.List.{[]}
+use Prim.Native.Nat.{_-_, _<_, _≤_}
+use native.Mathlib.Omega.{arith}
+use lib.ListN.{length, drop}
+use Rattle.definition.specs.Settings.{textsOf, settingsOf}
+use Rattle.definition.specs.Called.{seenBy}
+use Rattle.definition.specs.Walk.{tryExtension}
+use Rattle.resolver.specs.Loop.{Left, left-start, left-again, left-stop, left-end}
+use Rattle.resolver.specs.Meaning.{tapeOf, place}
+use Rattle.resolver.proofs.Files.{left-texts, none-left, file-ended, file-then}
+use Rattle.resolver.proofs.Ways.{ended, onward}
+use borrow.Author.Needs.{needs}
 use Rattle.resolver.proofs.load_as_file.Statement.{statement}
 use Rattle.resolver.proofs.load_as_file.Tie as tie
 use Rattle.resolver.proofs.load_as_file.Reads as reads
@@ -7,127 +21,57 @@ use Rattle.resolver.proofs.try_file.Reads as try-file-reads
 use Rattle.settings.proofs.count.Reads as count-reads
 
 abbrev Inv-loop : tie.InvT-loop
-Inv-loop l s path query fragment result₀ nums₀ text₀ mark₀ n i₀ result nums text mark i = ?
+Inv-loop l s path query fragment result₀ nums₀ text₀ mark₀ n i₀ result nums text mark i =
+    (length result ≡ length result₀) × (length nums ≡ length nums₀) × (length text ≡ length text₀)
+    × Left (seenBy (settingsOf s) l) (tryExtension (settingsOf s) (place path query fragment)) (textsOf s 1) (tapeOf result₀ nums₀ text₀ mark₀) (drop i (textsOf s 1)) (tapeOf result nums text mark)
 
 abbrev μ-loop : tie.MeasureT-loop
-μ-loop l s path query fragment result₀ nums₀ text₀ mark₀ n i₀ result nums text mark i = ?
-
--- src/lib.rt:363:9
-try-file-requires : tie.Need-try-file-requires Inv-loop μ-loop
-try-file-requires c κs = ?
-
-enum-told : tie.Need-enum-told Inv-loop μ-loop
-enum-told c = ?
-
--- src/lib.rt:366:9
-enum-told-2 : tie.Need-enum-told-2 Inv-loop μ-loop
-enum-told-2 c = ?
-
--- src/lib.rt:366:9
-same-length : tie.Need-same-length Inv-loop μ-loop
-same-length c = ?
-
--- src/lib.rt:366:9
-same-length-2 : tie.Need-same-length-2 Inv-loop μ-loop
-same-length-2 c = ?
-
--- src/lib.rt:366:9
-same-length-3 : tie.Need-same-length-3 Inv-loop μ-loop
-same-length-3 c = ?
-
--- src/lib.rt:366:9
-returns : tie.Need-returns Inv-loop μ-loop
-returns c = ?
-
--- src/lib.rt:369:9
-count-requires : tie.Need-count-requires Inv-loop μ-loop
-count-requires c κs = ?
-
--- src/lib.rt:371:5
-loop-holds : tie.Need-loop-holds Inv-loop μ-loop
-loop-holds c = ?
-
--- src/lib.rt:372:13
-try-extension-requires : tie.Need-try-extension-requires Inv-loop μ-loop
-try-extension-requires c κs = ?
-
-enum-told-3 : tie.Need-enum-told-3 Inv-loop μ-loop
-enum-told-3 c = ?
-
--- src/lib.rt:375:13
-enum-told-4 : tie.Need-enum-told-4 Inv-loop μ-loop
-enum-told-4 c = ?
-
--- src/lib.rt:375:13
-same-length-4 : tie.Need-same-length-4 Inv-loop μ-loop
-same-length-4 c = ?
-
--- src/lib.rt:375:13
-same-length-5 : tie.Need-same-length-5 Inv-loop μ-loop
-same-length-5 c = ?
-
--- src/lib.rt:375:13
-same-length-6 : tie.Need-same-length-6 Inv-loop μ-loop
-same-length-6 c = ?
-
--- src/lib.rt:375:13
-returns-2 : tie.Need-returns-2 Inv-loop μ-loop
-returns-2 c = ?
-
--- src/lib.rt:378:9
-add-i : tie.Need-add-i Inv-loop μ-loop
-add-i c = ?
-
--- src/lib.rt:371:5
-loop-less : tie.Need-loop-less Inv-loop μ-loop
-loop-less c = ?
-
--- src/lib.rt:371:5
-loop-again : tie.Need-loop-again Inv-loop μ-loop
-loop-again c = ?
-
--- src/lib.rt:350:1
-same-length-7 : tie.Need-same-length-7 Inv-loop μ-loop
-same-length-7 c = ?
-
--- src/lib.rt:350:1
-same-length-8 : tie.Need-same-length-8 Inv-loop μ-loop
-same-length-8 c = ?
-
--- src/lib.rt:350:1
-same-length-9 : tie.Need-same-length-9 Inv-loop μ-loop
-same-length-9 c = ?
-
--- src/lib.rt:350:1
-returns-3 : tie.Need-returns-3 Inv-loop μ-loop
-returns-3 c = ?
+μ-loop l s path query fragment result₀ nums₀ text₀ mark₀ n i₀ result nums text mark i = n - i
 
 pub load-as-file-spec : {M : Type 1} → statement M
+unfolding settingsOf
 load-as-file-spec =
     tie.close
     (tie.spec
     Inv-loop
     μ-loop
-    try-file-requires
-    enum-told
-    enum-told-2
-    same-length
-    same-length-2
-    same-length-3
-    returns
-    count-requires
-    loop-holds
-    try-extension-requires
-    enum-told-3
-    enum-told-4
-    same-length-4
-    same-length-5
-    same-length-6
-    returns-2
-    add-i
-    loop-less
-    loop-again
-    same-length-7
-    same-length-8
-    same-length-9
-    returns-3)
+    (λ c κs. search needs)
+    (λ c. search needs)
+    (λ c. search needs)
+    (λ c. search needs)
+    (λ c. search needs)
+    (λ c. search needs)
+    (λ c.
+    let x = ended (c .before .before .before .before .before .before .before .before .try-file .result .way) (c .before .match .keys2) in
+    file-ended _ _ (c .before .before .before .before .before .before .before .before .try-file .ensures _) (x .0) (x .1))
+    (λ c κs. search needs)
+    (λ c. (refl, refl, refl, left-start _ _ _ _ _ refl))
+    (λ c κs. search needs)
+    (λ c. search needs)
+    (λ c. search needs)
+    (λ c. search needs)
+    (λ c. search needs)
+    (λ c. search needs)
+    (λ c.
+    let l = c .before .before .before .before .before .before .before .before .before .before .before .before .before .loop in
+    let more : l .i < length (textsOf (c .before .before .before .before .before .before .before .before .before .before .before .before .before .before .before .before .before .before .before .before .before .before .before .before .before .before .before .before .before .before .before .before .before .before .before .before .args .s .now) 1) = omega (arith, c .before .before .before .before .before .before .before .before .before .before .before .before .before .before .count .ensures, c .before .before .before .before .before .before .before .before .before .before .before .before .loop-test .taken) in
+    let x = ended (c .before .before .before .before .before .before .before .before .try-extension .result .way) (c .before .match2 .keys2) in
+    file-then _ _ (c .before .before .before .before .before .before .before .before .before .before .before .before .before .before .before .before .before .before .before .before .before .before .before .before .try-file .ensures _) (onward _ (c .before .before .before .before .before .before .before .before .before .before .before .before .before .before .before .before .enum-told .given .1))
+    (left-stop _ _ _ _ _ _ _ _ _ _ (x .0) (left-texts [] _ _ more) (l .inv .3) (x .1) (c .before .before .before .before .before .before .before .before .try-extension .ensures _)))
+    (λ c. search needs)
+    (λ c. search needs)
+    (λ c.
+    let l = c .before .before .before .before .before .before .before .before .before .before .before .before .before .before .loop in
+    let more : l .i < length (textsOf (c .before .before .before .before .before .before .before .before .before .before .before .before .before .before .before .before .before .before .before .before .before .before .before .before .before .before .before .before .before .before .before .before .before .before .before .before .before .args .s .now) 1) = omega (arith, c .before .before .before .before .before .before .before .before .before .before .before .before .before .before .before .count .ensures, c .before .before .before .before .before .before .before .before .before .before .before .before .before .loop-test .taken) in
+    let r = c .before .before .before .before .before .before .before .before .before .try-extension in (
+      r .kept .1 .1 .1 .1 .1 .1 .0 ∙ l .inv .0,
+      r .kept .1 .1 .1 .1 .1 .1 .1 .0 ∙ l .inv .1,
+      r .kept .1 .1 .1 .1 .1 .1 .1 .1 .0 ∙ l .inv .2,
+      left-again _ _ _ _ _ _ _ _ _ _ (left-texts [] _ _ more) (l .inv .3) (onward _ (c .before .enum-told3 .given .1)) (r .ensures _),
+    ))
+    (λ c. search needs)
+    (λ c. search needs)
+    (λ c. search needs)
+    (λ c.
+    file-then _ _ (c .before .before .before .before .before .before .before .before .before .before .before .before .try-file .ensures _) (onward _ (c .before .before .before .before .enum-told .given .1))
+    (left-end _ _ _ _ _ _ (none-left (textsOf (c .before .before .before .before .before .before .before .before .before .before .before .before .before .before .before .before .before .before .before .before .before .before .before .before .args .s .now) 1) (c .before .loop .i) (omega (arith, c .before .before .count .ensures, c .loop-test .left))) (c .before .loop .inv .3))))

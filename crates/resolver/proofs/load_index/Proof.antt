@@ -1,3 +1,17 @@
+-- The loop's invariant: whatever finishes the main files from i on finishes all of them from where the loop began.
+use mathlib.Core.Path.{_≡_, refl, sym, _∙_, ap}
+use mathlib.Core.List.{[]}
+use Prim.Native.Nat.{_-_, _<_, _≤_}
+use native.Mathlib.Omega.{arith}
+use lib.ListN.{length, drop}
+use Rattle.definition.specs.Settings.{textsOf, settingsOf}
+use Rattle.definition.specs.Called.{seenBy}
+use Rattle.definition.specs.Walk.{LOAD-INDEX}
+use Rattle.resolver.specs.Loop.{Left, left-start, left-again, left-stop, left-end}
+use Rattle.resolver.specs.Meaning.{tapeOf, place, loadMainFile}
+use Rattle.resolver.proofs.Files.{left-texts, none-left}
+use Rattle.resolver.proofs.Ways.{ended, onward}
+use borrow.Author.Needs.{needs}
 use Rattle.resolver.proofs.load_index.Statement.{statement}
 use Rattle.resolver.proofs.load_index.Tie as tie
 use Rattle.resolver.proofs.load_index.Reads as reads
@@ -7,98 +21,46 @@ use Rattle.settings.proofs.count.Reads as count-reads
 use Rattle.settings.proofs.text.Reads as text-reads
 
 abbrev Inv-loop : tie.InvT-loop
-Inv-loop l s path query fragment result₀ nums₀ text₀ mark₀ n i₀ result nums text mark i = ?
+Inv-loop l s path query fragment result₀ nums₀ text₀ mark₀ n i₀ result nums text mark i =
+    (length result ≡ length result₀) × (length nums ≡ length nums₀) × (length text ≡ length text₀)
+    × Left (seenBy (settingsOf s) l) (loadMainFile (settingsOf s) (place path query fragment)) (textsOf s 3) (tapeOf result₀ nums₀ text₀ mark₀) (drop i (textsOf s 3)) (tapeOf result nums text mark)
 
 abbrev μ-loop : tie.MeasureT-loop
-μ-loop l s path query fragment result₀ nums₀ text₀ mark₀ n i₀ result nums text mark i = ?
-
--- src/lib.rt:454:9
-count-requires : tie.Need-count-requires Inv-loop μ-loop
-count-requires c κs = ?
-
--- src/lib.rt:456:5
-loop-holds : tie.Need-loop-holds Inv-loop μ-loop
-loop-holds c = ?
-
--- src/lib.rt:457:13
-text-requires : tie.Need-text-requires Inv-loop μ-loop
-text-requires c κs = ?
-
--- src/lib.rt:458:13
-load-main-file-requires : tie.Need-load-main-file-requires Inv-loop μ-loop
-load-main-file-requires c κs = ?
-
-enum-told : tie.Need-enum-told Inv-loop μ-loop
-enum-told c = ?
-
--- src/lib.rt:461:13
-enum-told-2 : tie.Need-enum-told-2 Inv-loop μ-loop
-enum-told-2 c = ?
-
--- src/lib.rt:461:13
-same-length : tie.Need-same-length Inv-loop μ-loop
-same-length c = ?
-
--- src/lib.rt:461:13
-same-length-2 : tie.Need-same-length-2 Inv-loop μ-loop
-same-length-2 c = ?
-
--- src/lib.rt:461:13
-same-length-3 : tie.Need-same-length-3 Inv-loop μ-loop
-same-length-3 c = ?
-
--- src/lib.rt:461:13
-returns : tie.Need-returns Inv-loop μ-loop
-returns c = ?
-
--- src/lib.rt:464:9
-add-i : tie.Need-add-i Inv-loop μ-loop
-add-i c = ?
-
--- src/lib.rt:456:5
-loop-less : tie.Need-loop-less Inv-loop μ-loop
-loop-less c = ?
-
--- src/lib.rt:456:5
-loop-again : tie.Need-loop-again Inv-loop μ-loop
-loop-again c = ?
-
--- src/lib.rt:440:1
-same-length-4 : tie.Need-same-length-4 Inv-loop μ-loop
-same-length-4 c = ?
-
--- src/lib.rt:440:1
-same-length-5 : tie.Need-same-length-5 Inv-loop μ-loop
-same-length-5 c = ?
-
--- src/lib.rt:440:1
-same-length-6 : tie.Need-same-length-6 Inv-loop μ-loop
-same-length-6 c = ?
-
--- src/lib.rt:440:1
-returns-2 : tie.Need-returns-2 Inv-loop μ-loop
-returns-2 c = ?
+μ-loop l s path query fragment result₀ nums₀ text₀ mark₀ n i₀ result nums text mark i = n - i
 
 pub load-index-spec : {M : Type 1} → statement M
+unfolding settingsOf LOAD-INDEX loadMainFile
 load-index-spec =
     tie.close
     (tie.spec
     Inv-loop
     μ-loop
-    count-requires
-    loop-holds
-    text-requires
-    load-main-file-requires
-    enum-told
-    enum-told-2
-    same-length
-    same-length-2
-    same-length-3
-    returns
-    add-i
-    loop-less
-    loop-again
-    same-length-4
-    same-length-5
-    same-length-6
-    returns-2)
+    (λ c κs. search needs)
+    (λ c. (refl, refl, refl, left-start _ _ _ _ _ refl))
+    (λ c κs. search needs)
+    (λ c κs. search needs)
+    (λ c. search needs)
+    (λ c. search needs)
+    (λ c. search needs)
+    (λ c. search needs)
+    (λ c. search needs)
+    (λ c.
+    let l = c .before .before .before .before .before .before .before .before .before .before .before .before .before .before .loop in
+    let more : l .i < length (textsOf (c .before .before .before .before .before .before .before .before .before .before .before .before .before .before .before .before .before .before .before .before .before .before .before .before .args .s .now) 3) = omega (arith, c .before .before .before .before .before .before .before .before .before .before .before .before .before .before .before .count .ensures, c .before .before .before .before .before .before .before .before .before .before .before .before .before .loop-test .taken) in
+    let x = ended (c .before .before .before .before .before .before .before .before .load-main-file .result .way) (c .before .match .keys2) in
+    left-stop _ _ _ _ _ _ _ _ _ _ (x .0) (left-texts [] _ _ more) (l .inv .3) (x .1) (rw (c .before .before .before .before .before .before .before .before .before .before .before .before .text .ensures) at (c .before .before .before .before .before .before .before .before .load-main-file .ensures)))
+    (λ c. search needs)
+    (λ c. search needs)
+    (λ c.
+    let l = c .before .before .before .before .before .before .before .before .before .before .before .before .before .before .before .loop in
+    let more : l .i < length (textsOf (c .before .before .before .before .before .before .before .before .before .before .before .before .before .before .before .before .before .before .before .before .before .before .before .before .before .args .s .now) 3) = omega (arith, c .before .before .before .before .before .before .before .before .before .before .before .before .before .before .before .before .count .ensures, c .before .before .before .before .before .before .before .before .before .before .before .before .before .before .loop-test .taken) in
+    let r = c .before .before .before .before .before .before .before .before .before .load-main-file in (
+      r .kept .1 .1 .1 .1 .1 .1 .0 ∙ l .inv .0,
+      r .kept .1 .1 .1 .1 .1 .1 .1 .0 ∙ l .inv .1,
+      r .kept .1 .1 .1 .1 .1 .1 .1 .1 .0 ∙ l .inv .2,
+      left-again _ _ _ _ _ _ _ _ _ _ (left-texts [] _ _ more) (l .inv .3) (onward _ (c .before .enum-told .given .1)) (rw (c .before .before .before .before .before .before .before .before .before .before .before .before .before .text .ensures) at (r .ensures)),
+    ))
+    (λ c. search needs)
+    (λ c. search needs)
+    (λ c. search needs)
+    (λ c. left-end _ _ _ _ _ _ (none-left (textsOf (c .before .before .before .before .before .before .before .before .before .before .before .args .s .now) 3) (c .before .loop .i) (omega (arith, c .before .before .count .ensures, c .loop-test .left))) (c .before .loop .inv .3)))

@@ -43,21 +43,21 @@ load-main-file-spec =
     (λ c. search needs)
     (λ c. search needs)
     (λ c.
-        let l = c .before .before .before .before .before .before .before .before .before .before .before .before .before .loop in
-        let more : l .i < length (textsOf (c .before .before .before .before .before .before .before .before .before .before .before .before .before .before .before .before .before .before .before .before .before .before .before .before .args .s .now) 1) = omega (arith, c .before .before .before .before .before .before .before .before .before .before .before .before .before .before .count .ensures, c .before .before .before .before .before .before .before .before .before .before .before .before .loop-test .taken) in
-        let x = ended (c .before .before .before .before .before .before .before .before .try-index .result .way) (c .before .match .keys2) in
-        left-stop _ _ _ _ _ _ _ _ _ _ (x .0) (left-texts [] _ _ more) (l .inv .3) (x .1) (c .before .before .before .before .before .before .before .before .try-index .ensures _))
+    let l = c .before .before .before .before .before .before .before .before .before .before .before .before .before .loop in
+    let more : l .i < length (textsOf (c .before .before .before .before .before .before .before .before .before .before .before .before .before .before .before .before .before .before .before .before .before .before .before .before .args .s .now) 1) = omega (arith, c .before .before .before .before .before .before .before .before .before .before .before .before .before .before .count .ensures, c .before .before .before .before .before .before .before .before .before .before .before .before .loop-test .taken) in
+    let x = ended (c .before .before .before .before .before .before .before .before .try-index .result .way) (c .before .match .keys2) in
+    left-stop _ _ _ _ _ _ _ _ _ _ (x .0) (left-texts [] _ _ more) (l .inv .3) (x .1) (c .before .before .before .before .before .before .before .before .try-index .ensures _))
     (λ c. search needs)
     (λ c. search needs)
     (λ c.
-        let l = c .before .before .before .before .before .before .before .before .before .before .before .before .before .before .loop in
-        let more : l .i < length (textsOf (c .before .before .before .before .before .before .before .before .before .before .before .before .before .before .before .before .before .before .before .before .before .before .before .before .before .args .s .now) 1) = omega (arith, c .before .before .before .before .before .before .before .before .before .before .before .before .before .before .before .count .ensures, c .before .before .before .before .before .before .before .before .before .before .before .before .before .loop-test .taken) in
-        let r = c .before .before .before .before .before .before .before .before .before .try-index in (
-          r .kept .1 .1 .1 .1 .1 .1 .1 .0 ∙ l .inv .0,
-          r .kept .1 .1 .1 .1 .1 .1 .1 .1 .0 ∙ l .inv .1,
-          r .kept .1 .1 .1 .1 .1 .1 .1 .1 .1 .0 ∙ l .inv .2,
-          left-again _ _ _ _ _ _ _ _ _ _ (left-texts [] _ _ more) (l .inv .3) (onward _ (c .before .enum-told .given .1)) (r .ensures _),
-        ))
+    let l = c .before .before .before .before .before .before .before .before .before .before .before .before .before .before .loop in
+    let more : l .i < length (textsOf (c .before .before .before .before .before .before .before .before .before .before .before .before .before .before .before .before .before .before .before .before .before .before .before .before .before .args .s .now) 1) = omega (arith, c .before .before .before .before .before .before .before .before .before .before .before .before .before .before .before .count .ensures, c .before .before .before .before .before .before .before .before .before .before .before .before .before .loop-test .taken) in
+    let r = c .before .before .before .before .before .before .before .before .before .try-index in (
+      r .kept .1 .1 .1 .1 .1 .1 .1 .0 ∙ l .inv .0,
+      r .kept .1 .1 .1 .1 .1 .1 .1 .1 .0 ∙ l .inv .1,
+      r .kept .1 .1 .1 .1 .1 .1 .1 .1 .1 .0 ∙ l .inv .2,
+      left-again _ _ _ _ _ _ _ _ _ _ (left-texts [] _ _ more) (l .inv .3) (onward _ (c .before .enum-told .given .1)) (r .ensures _),
+    ))
     (λ c. search needs)
     (λ c. search needs)
     (λ c. search needs)

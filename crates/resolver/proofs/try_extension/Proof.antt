@@ -23,5 +23,5 @@ try-extension-spec =
     (λ c. search needs)
     (λ c. search needs)
     (λ c.
-        let b = c .before .before .before .before .before .before .before .before .before .before .append .ensures ∙ ap (λ x. andPath x (λ p. addExtension p (c .before .before .before .before .before .before .before .before .before .before .before .text .result .now))) (c .before .before .before .before .before .before .before .before .before .before .before .before .from .ensures) in
-        λ G. extension-tried G _ _ _ _ (c .before .before .before .before .before .before .try-path .ensures G) _ (rw (c .before .before .before .before .before .before .before .before .before .before .before .text .ensures) at b)))
+    let b = c .before .before .before .before .before .before .before .before .before .before .append .ensures ∙ ap (λ x. andPath x (λ p. addExtension p (c .before .before .before .before .before .before .before .before .before .before .before .text .result .now))) (c .before .before .before .before .before .before .before .before .before .before .before .before .from .ensures) in
+    λ G. extension-tried G _ _ _ _ (c .before .before .before .before .before .before .try-path .ensures G) _ (rw (c .before .before .before .before .before .before .before .before .before .before .before .text .ensures) at b)))

@@ -23,5 +23,5 @@ try-index-spec =
     (λ c. search needs)
     (λ c. search needs)
     (λ c.
-        let b = c .before .before .before .before .before .before .before .before .before .before .append-main-file .ensures ∙ ap (λ x. andPath x (λ p. addNameAndExtension p (c .before .before .before .before .before .before .before .before .before .before .before .before .before .before .before .before .before .before .before .before .before .before .args .file .now) (c .before .before .before .before .before .before .before .before .before .before .before .text .result .now))) (c .before .before .before .before .before .before .before .before .before .before .before .before .from .ensures) in
-        λ G. index-tried G _ _ _ _ (c .before .before .before .before .before .before .try-path .ensures G) _ _ (rw (c .before .before .before .before .before .before .before .before .before .before .before .text .ensures) at b)))
+    let b = c .before .before .before .before .before .before .before .before .before .before .append-main-file .ensures ∙ ap (λ x. andPath x (λ p. addNameAndExtension p (c .before .before .before .before .before .before .before .before .before .before .before .before .before .before .before .before .before .before .before .before .before .before .args .file .now) (c .before .before .before .before .before .before .before .before .before .before .before .text .result .now))) (c .before .before .before .before .before .before .before .before .before .before .before .before .from .ensures) in
+    λ G. index-tried G _ _ _ _ (c .before .before .before .before .before .before .try-path .ensures G) _ _ (rw (c .before .before .before .before .before .before .before .before .before .before .before .text .ensures) at b)))
