@@ -101,7 +101,7 @@ distinct-new names (once {k = k} {j = j} {ms = ms} x d) a = new-name (by-test (i
     apart i e = or-elim (equal k i) (isOneOf names i) e (λ h. subst (λ z. Absent z ms) (equal-true k i h) x) (λ h. inner i (a i h))
 
 -- words
-word-sound : (w s : Text) (j : Json) (r : Text) → word w s ≡ got j r → (s ≡ w ++ r) × (scalar ≡ j)
+pub word-sound : (w s : Text) (j : Json) (r : Text) → word w s ≡ got j r → (s ≡ w ++ r) × (scalar ≡ j)
 unfolding word
 word-sound [] s j r e = (cc, cc)
 word-sound (c ∷ w) [] j r e = no-got e
@@ -138,11 +138,11 @@ pub record ValueRead (d : ℕ) (s : Text) (j : Json) (r : Text) : Type 0 where
   pub within : Within d j
 
 -- behind an element or a member: a comma and more, or the closing bracket
-data Followed {A : Type 0} (bracket : ℕ) (end : A) (more : Text → Read A) (s : Text) (a : A) (r : Text) : Type 0 where
+pub data Followed {A : Type 0} (bracket : ℕ) (end : A) (more : Text → Read A) (s : Text) (a : A) (r : Text) : Type 0 where
   at-comma : (u : Text) → skipSpace s ≡ 44 ∷ u → more (skipSpace u) ≡ got a r → Followed bracket end more s a r
   at-bracket : skipSpace s ≡ bracket ∷ r → end ≡ a → Followed bracket end more s a r
 
-follow-sound : {A : Type 0} (bracket : ℕ) (end : A) (more : Text → Read A) (s : Text) (a : A) (r : Text)
+pub follow-sound : {A : Type 0} (bracket : ℕ) (end : A) (more : Text → Read A) (s : Text) (a : A) (r : Text)
     → follow bracket end more (skipSpace s) ≡ got a r → Followed bracket end more s a r
 unfolding follow
 follow-sound {A} bracket end more s a r e = go (skipSpace s) refl e

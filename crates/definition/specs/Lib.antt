@@ -48,6 +48,8 @@ pub mod JsonNumberLaws
 pub mod JsonSoundLaws
 pub mod JsonCompleteLaws
 pub mod JsonGrammarLaws
+pub mod JsonSkipLaws
+pub mod JsonAtLaws
 pub mod Layout
 pub mod Laid
 pub mod SameMapLaws

@@ -12,7 +12,8 @@ use lib.Dec.{eqb}
 use borrow.Author.Tests.{eq-eqb, ne-eqb, eqb-true, le-leb, lt-leb}
 use Rattle.definition.specs.Text.{if_then_else_, equal, overwrite}
 use Rattle.definition.specs.Json.{Read, got, fault, Fault, quoted}
-use Rattle.definition.specs.JsonAt.{thenAt, textEnd, opensBracket, closesBracket, outside, inText, escaped, bracketEnd, restOf, further, isText, nameIs, memberValue, nextMember, findMember, hasEscape, toldAt, textAt}
+use Rattle.definition.specs.JsonSkipLaws.{over-text}
+use Rattle.definition.specs.JsonAt.{thenAt, textEnd, opensBracket, closesBracket, outside, bracketEnd, restOf, further, isText, nameIs, memberValue, nextMember, findMember, hasEscape, toldAt, textAt}
 use Rattle.package_json.specs.Scanned.{Reads}
 use Rattle.package_json.specs.Decoded.{plain}
 use Rattle.package_json.specs.declared.Scan.{Scan}
@@ -77,20 +78,7 @@ pub text-none : (m : List ℕ) (i : ℕ) → length m ≤ i → none ≡ textEnd
 unfolding textEnd
 text-none m i l = rw (past m i l)
 
--- inside brackets: a whole text at once
-over-text : (e : Bool) (n : ℕ) (s : List ℕ) → bracketEnd (if e then escaped else inText) n s ≡ thenAt (textEnd e s) (λ r. bracketEnd outside n r)
-unfolding bracketEnd textEnd
-over-text true n [] = refl
-over-text false n [] = refl
-over-text true n (b ∷ s) = over-text false n s
-over-text false n (b ∷ s) = go (eqb b 34) (eqb b 92) (over-text true n s) (over-text false n s)
-  where
-    go : (x y : Bool) → bracketEnd escaped n s ≡ thenAt (textEnd true s) (λ r. bracketEnd outside n r) → bracketEnd inText n s ≡ thenAt (textEnd false s) (λ r. bracketEnd outside n r)
-        → (if x then bracketEnd outside n s else if y then bracketEnd escaped n s else bracketEnd inText n s) ≡ thenAt (if x then some s else if y then textEnd true s else textEnd false s) (λ r. bracketEnd outside n r)
-    go true y f g = refl
-    go false true f g = f
-    go false false f g = g
-
+-- inside brackets
 pub bracket-cut : (m : List ℕ) (i n : ℕ) → length m ≤ i → none ≡ bracketEnd outside n (drop i m)
 unfolding bracketEnd
 bracket-cut m i n l = rw (past m i l)

@@ -1,6 +1,6 @@
 // Paths: a path under construction, and path.rs.
 ghost use mathlib.Core.Path.{_≡_};
-ghost use mathlib.Core.List.{[], _++_};
+ghost use mathlib.Core.List.{[]};
 ghost use Prim.Native.Nat.{_≤_};
 ghost use lib.ListN.{length, take};
 ghost use Rattle.definition.specs.Path.{built, andPath, limited, push, parent, addExtension, addNameAndExtension, manifestOf, nameOf, component, pushAll, normalizeWith, pops, pushRelative, normalizeRelative, anyInvalid, isInvalidExportsTarget};
@@ -157,9 +157,7 @@ impl PathBuf {
     pub fn from(text: &[u8]) -> PathBuf
         ensures { λ r. ⌜ pathOf r ≡ limited (now (text .entry)) ⌝ }
     {
-        let mut bytes = [0u8; 2048];
-        let len = put(&mut bytes, 0, text);
-        PathBuf { bytes, len }
+        PathBuf::new().append(text)
     }
 
     pub fn over_long(self) -> bool
