@@ -1,8 +1,8 @@
 -- Facts about the definitions of `Specifier`. Assumes nothing.
 use mathlib.Core.Path.{_≡_, refl, sym, _∙_, ap}
-use Prim.Native.Nat.{ℕ, zero, suc, _+_, _-_, _≤_, _<_}
+use Prim.Native.Nat.{ℕ, zero, suc, _+_, _≤_, _<_}
 use mathlib.Core.Bool.{Bool, true, false, not, _&&_, _||_, and-false, and-assoc, and-comm}
-use mathlib.Core.List.{List, [], _∷_, _++_, flatMap}
+use mathlib.Core.List.{List, [], _∷_, _++_}
 use mathlib.Core.Option.{none, some}
 use native.Mathlib.Omega.{arith}
 use borrow.Author.Tests.{eqb-true, eqb-false, eq-eqb, ne-eqb}
@@ -11,8 +11,7 @@ use lib.ListN.{length, drop, take, getD, length-append, length-take, drop-of-len
 use lib.Seq.{take-append-add, append-snoc, drop-cons, drop-nil}
 use Rattle.definition.specs.Text.{text, if_then_else_, slash, equal, startsWith, contains, containsText, before, after, toFirst, split}
 use Rattle.definition.specs.TextLaws.{before-after, and-true}
-use Rattle.definition.specs.TextSteps.{before-inside}
-use Rattle.definition.specs.Path.{Component, rootDir, curDir, parentDir, normal, component, leading, components}
+use Rattle.definition.specs.Path.{component, leading, components}
 use Rattle.definition.specs.Specifier.{packageName, firstIsNormal, isBare, normalizedSpecifier, climbing, specifier-computes}
 
 -- the byte c stands at a place, or it does not

@@ -1,13 +1,13 @@
 -- The specifier of the second walk. Assumes nothing.
 use mathlib.Core.Path.{_≡_, refl, sym, _∙_, ap}
-use Prim.Native.Nat.{ℕ, _≤_, _<_}
+use Prim.Native.Nat.{ℕ, _≤_}
 use mathlib.Core.Bool.{Bool, true, false}
-use mathlib.Core.List.{List, [], _∷_, _++_, append-nil}
+use mathlib.Core.List.{List, [], _++_, append-nil}
 use native.Mathlib.Omega.{arith}
 use borrow.Author.Tests.{leb-true, leb-false}
 use lib.Dec.{leb}
 use lib.ListN.{length, take, length-take}
-use Rattle.definition.specs.Text.{text, if_then_else_, endsWith}
+use Rattle.definition.specs.Text.{text, endsWith}
 use Rattle.definition.specs.Path.{Built, built, tooLong, andPath, limited, addExtension, normalizeRelative}
 use Rattle.definition.specs.PathLaws.{limited-fits, limited-long}
 use Rattle.definition.specs.Specifier.{normalizedSpecifier}

@@ -1,6 +1,6 @@
 -- `Specifier::parse`: its parts from the places of the fragment and of the query. Assumes nothing.
 use mathlib.Core.Path.{_≡_, refl, sym, _∙_, ap}
-use Prim.Native.Nat.{ℕ, suc, _+_, _≤_, _<_}
+use Prim.Native.Nat.{ℕ, _+_, _≤_, _<_}
 use mathlib.Core.Bool.{Bool, true, false, not, _&&_}
 use mathlib.Core.List.{List, [], _∷_, flatMap}
 use native.Mathlib.Omega.{arith}
@@ -8,12 +8,12 @@ use borrow.Author.Tests.{eqb-true, eqb-false}
 use lib.Dec.{eqb}
 use lib.ListN.{length, drop, take, length-take}
 use lib.Seq.{take-take, length-take-le}
-use Rattle.definition.specs.Text.{if_then_else_, question, hash, containsText, before, from}
+use Rattle.definition.specs.Text.{if_then_else_, question, hash, before, from}
 use Rattle.definition.specs.TextSteps.{before-inside}
 use Rattle.definition.specs.Path.{Built, limited}
 use Rattle.definition.specs.Specifier.{parsed, emptySpecifier, beforeFragment, body, unescape, pathBefore, orEmpty, parseSpecifier}
 use Rattle.definition.specs.SpecifierLaws.{before-take}
-use Rattle.specifier.specs.Meaning.{Scanned, Parts, parts, noPath, partsOf}
+use Rattle.specifier.specs.Meaning.{Scanned, parts, noPath, partsOf}
 use Rattle.specifier.proofs.Widening.{widened, widened-some}
 
 -- what stands before the fragment is a start of the specifier

@@ -3,7 +3,7 @@ use path::PathBuf;
 ghost use mathlib.Core.Path.{_≡_};
 ghost use mathlib.Core.Bool.{_&&_, _||_};
 ghost use mathlib.Core.List.{flatMap};
-ghost use Prim.Native.Nat.{ℕ, _+_, _≤_, _<_};
+ghost use Prim.Native.Nat.{_+_, _<_};
 ghost use lib.Dec.{eqb};
 ghost use lib.ListN.{length, drop, take, getD};
 ghost use Rattle.definition.specs.Text.{text, if_then_else_, equal, startsWith, containsText, utf8, overwrite};
