@@ -284,15 +284,15 @@ unfolding dirs
 dirs-short n p h k = climb-short n (depth p) p h k
 
 -- the specifier of the second walk
+pub normalized-short : (n : ℕ) (s : List ℕ) → length s ≤ n → length (normalizedSpecifier s) ≤ n + 3
+unfolding normalizedSpecifier
+normalized-short n s h =
+    omega (arith, normalizeRelative-short s, length-append (normalizeRelative s) (if endsWith (text "/") s then text "/" else []), if-short 1 (endsWith (text "/") s) (text "/") [] (omega arith) (omega arith))
+
 pub climbing-short : (n : ℕ) (s t : List ℕ) → length s ≤ n → climbing s ≡ some t → length t ≤ n + 3
 unfolding climbing
 climbing-short n s t h e = by ((containsText (text "/../..") s || containsText (text "../../") s) && equal (packageName (normalizedSpecifier s)) (text "..")) e
   where
-    whole : length (normalizedSpecifier s) ≤ n + 3
-    whole =
-        unfold normalizedSpecifier in
-        (omega (arith, normalizeRelative-short s, length-append (normalizeRelative s) (if endsWith (text "/") s then text "/" else []), if-short 1 (endsWith (text "/") s) (text "/") [] (omega arith) (omega arith)))
-
     by : (u : Bool) → (if u then some (normalizedSpecifier s) else none) ≡ some t → length t ≤ n + 3
-    by true e = let x : normalizedSpecifier s ≡ t = cc in rw (← x) whole
+    by true e = let x : normalizedSpecifier s ≡ t = cc in rw (← x) (normalized-short n s h)
     by false e = absurd (let z : _≡_ {A = ℕ} 0 1 = cc in omega arith)
