@@ -140,6 +140,9 @@ last-found c (b ∷ s) r e h = go (contains c s) (eqb b c) refl refl (last-found
     go false true e f ih (suc r) k h = let z : ⊥ = omega arith in absurd z
     go false false e f ih r k h = let z : ⊥ = omega arith in absurd z
 
+pub last-there : (c : ℕ) (s : List ℕ) (r : ℕ) → r ≡ length (beforeLast c s) → (r ≡ length s → ⊥) → LastAt c s r
+last-there c s r e n = let f : r ≡ length s → ⊥ = n in last-found c s r e (omega (arith, last-inside c s))
+
 -- texts put together
 pub contains-append : (c : ℕ) (a b : List ℕ) → contains c (a ++ b) ≡ contains c a || contains c b
 unfolding contains

@@ -5,7 +5,7 @@ use lib.ListN.{length}
 use native.Mathlib.Omega.{arith}
 use borrow.Author.Tests.{not-true, not-false}
 use Rattle.definition.specs.Text.{slash}
-use Rattle.definition.specs.PathSteps.{last-inside, last-missing, last-found}
+use Rattle.definition.specs.PathSteps.{last-missing, last-there}
 use Rattle.definition.specs.ListingNameLaws.{path-no-slash, path-two-slashes, cut-of}
 use Rattle.definition.specs.ListingOrder.{going-down, going-no-path, going-apart, going-unmarked, going-too-deep, name-is, going-next}
 use borrow.Author.Needs.{needs}
@@ -22,7 +22,7 @@ step-spec =
     λ rs tail rest s e g. going-no-path rs (a .p .now) (a .m .now) (a .q .now) (a .d) s rest tail g e (path-no-slash (a .q .now) (last-missing slash (a .q .now) (sym (c .before .rfind .ensures) ∙ c .if1 .taken))))
     (λ c.
     let a = c .before .before .before .before .before .args in
-    let f = last-found slash (a .q .now) _ (c .before .before .rfind .ensures) (omega (arith, last-inside slash (a .q .now), c .before .before .rfind .ensures, c .before .if1 .left)) in
+    let f = last-there slash (a .q .now) _ (c .before .before .rfind .ensures) (c .before .if1 .left) in
     λ rs tail rest s e g. going-no-path rs (a .p .now) (a .m .now) (a .q .now) (a .d) s rest tail g e (path-two-slashes (a .q .now) (omega (arith, f .inside, c .if2 .taken)) (rw (c .if2 .taken) at (f .here))))
     (λ c κs. search needs)
     (λ c. search needs)
@@ -34,30 +34,30 @@ step-spec =
     (λ c κs. search needs)
     (λ c.
     let a = c .before .before .before .before .before .before .before .before .before .before .before .args in
-    let f = last-found slash (a .q .now) _ (c .before .before .before .before .before .before .before .before .rfind .ensures) (omega (arith, last-inside slash (a .q .now), c .before .before .before .before .before .before .before .before .rfind .ensures, c .before .before .before .before .before .before .before .if1 .left)) in
+    let f = last-there slash (a .q .now) _ (c .before .before .before .before .before .before .before .before .rfind .ensures) (c .before .before .before .before .before .before .before .if1 .left) in
     let h = rw (c .before .before .before .t .given .1) at (c .before .before .before .before .before .rise .ensures) in
     λ rs tail rest s e g. going-apart rs (a .p .now) (a .m .now) (a .q .now) (a .d) s rest tail g e _ h _ _ f (c .before .before .before .before .before .before .if2 .left) (c .before .cut .ensures) (c .if3 .taken))
     (λ c. omega (arith, c .if3 .left, (rw (c .before .before .before .t .given .1) at (c .before .before .before .before .before .rise .ensures)) .inside, c .before .before .before .before .before .before .before .before .before .before .before .pre .0, c .before .before .before .before .before .before .before .before .before .before .before .pre .2))
     (λ c.
     let a = c .before .before .before .before .before .before .before .before .before .before .before .before .before .args in
-    let f = last-found slash (a .q .now) _ (c .before .before .before .before .before .before .before .before .before .before .rfind .ensures) (omega (arith, last-inside slash (a .q .now), c .before .before .before .before .before .before .before .before .before .before .rfind .ensures, c .before .before .before .before .before .before .before .before .before .if1 .left)) in
+    let f = last-there slash (a .q .now) _ (c .before .before .before .before .before .before .before .before .before .before .rfind .ensures) (c .before .before .before .before .before .before .before .before .before .if1 .left) in
     let h = rw (c .before .before .before .before .before .t .given .1) at (c .before .before .before .before .before .before .before .rise .ensures) in
     let t = cut-of (a .q .now) _ _ f (c .before .before .before .before .before .before .before .before .if2 .left) (c .before .before .before .cut .ensures) (omega (arith, h .below, c .before .before .before .cut .ensures, c .before .before .if3 .left)) in
     λ rs tail rest s e g. going-unmarked rs (a .p .now) (a .m .now) (a .q .now) (a .d) s rest tail g e _ h _ _ t (omega (arith, c .before .before .if3 .left)) (c .if4 .taken))
     (λ c.
     let a = c .before .before .before .before .before .before .before .before .before .before .before .before .before .before .args in
-    let f = last-found slash (a .q .now) _ (c .before .before .before .before .before .before .before .before .before .before .before .rfind .ensures) (omega (arith, last-inside slash (a .q .now), c .before .before .before .before .before .before .before .before .before .before .before .rfind .ensures, c .before .before .before .before .before .before .before .before .before .before .if1 .left)) in
+    let f = last-there slash (a .q .now) _ (c .before .before .before .before .before .before .before .before .before .before .before .rfind .ensures) (c .before .before .before .before .before .before .before .before .before .before .if1 .left) in
     let h = rw (c .before .before .before .before .before .before .t .given .1) at (c .before .before .before .before .before .before .before .before .rise .ensures) in
     let t = cut-of (a .q .now) _ _ f (c .before .before .before .before .before .before .before .before .before .if2 .left) (c .before .before .before .before .cut .ensures) (omega (arith, h .below, c .before .before .before .before .cut .ensures, c .before .before .before .if3 .left)) in
     λ rs tail rest s e g. going-too-deep rs (a .p .now) (a .m .now) (a .q .now) (a .d) s rest tail g e _ h _ _ t (omega (arith, c .before .before .before .if3 .left)) (c .before .if4 .left) (c .if5 .taken))
-    (λ c. omega (arith, last-inside slash (c .before .before .before .before .before .before .before .before .before .before .before .before .before .before .args .q .now), c .before .before .before .before .before .before .before .before .before .before .before .rfind .ensures, c .before .before .before .before .before .before .before .before .before .before .if1 .left))
-    (λ c. omega (arith, last-inside slash (c .before .before .before .before .before .before .before .before .before .before .before .before .before .before .args .q .now), c .before .before .before .before .before .before .before .before .before .before .before .rfind .ensures, c .before .before .before .before .before .before .before .before .before .before .if1 .left))
-    (λ c. let i : c .before .before .before .before .before .before .before .before .before .before .before .rfind .result < length (c .before .before .before .before .before .before .before .before .before .before .before .before .before .before .args .q .now) = omega (arith, last-inside slash (c .before .before .before .before .before .before .before .before .before .before .before .before .before .before .args .q .now), c .before .before .before .before .before .before .before .before .before .before .before .rfind .ensures, c .before .before .before .before .before .before .before .before .before .before .if1 .left) in search needs)
+    (λ c. omega (arith, last-there slash (c .before .before .before .before .before .before .before .before .before .before .before .before .before .before .args .q .now) _ (c .before .before .before .before .before .before .before .before .before .before .before .rfind .ensures) (c .before .before .before .before .before .before .before .before .before .before .if1 .left) .inside))
+    (λ c. omega (arith, last-there slash (c .before .before .before .before .before .before .before .before .before .before .before .before .before .before .args .q .now) _ (c .before .before .before .before .before .before .before .before .before .before .before .rfind .ensures) (c .before .before .before .before .before .before .before .before .before .before .if1 .left) .inside))
+    (λ c. let i : c .before .before .before .before .before .before .before .before .before .before .before .rfind .result < length (c .before .before .before .before .before .before .before .before .before .before .before .before .before .before .args .q .now) = omega (arith, last-there slash (c .before .before .before .before .before .before .before .before .before .before .before .before .before .before .args .q .now) _ (c .before .before .before .before .before .before .before .before .before .before .before .rfind .ensures) (c .before .before .before .before .before .before .before .before .before .before .if1 .left) .inside) in search needs)
     (λ c. search needs)
     (λ c κs. search needs)
     (λ c.
     let a = c .before .before .before .before .before .before .before .before .before .before .before .before .before .before .before .before .before .args in
-    let f = last-found slash (a .q .now) _ (c .before .before .before .before .before .before .before .before .before .before .before .before .before .before .rfind .ensures) (omega (arith, last-inside slash (a .q .now), c .before .before .before .before .before .before .before .before .before .before .before .before .before .before .rfind .ensures, c .before .before .before .before .before .before .before .before .before .before .before .before .before .if1 .left)) in
+    let f = last-there slash (a .q .now) _ (c .before .before .before .before .before .before .before .before .before .before .before .before .before .before .rfind .ensures) (c .before .before .before .before .before .before .before .before .before .before .before .before .before .if1 .left) in
     let h = rw (c .before .before .before .before .before .before .before .before .before .t .given .1) at (c .before .before .before .before .before .before .before .before .before .before .before .rise .ensures) in
     let t = cut-of (a .q .now) _ _ f (c .before .before .before .before .before .before .before .before .before .before .before .before .if2 .left) (c .before .before .before .before .before .before .before .cut .ensures) (omega (arith, h .below, c .before .before .before .before .before .before .before .cut .ensures, c .before .before .before .before .before .before .if3 .left)) in
     λ rs tail rest s e g. going-no-path rs (a .p .now) (a .m .now) (a .q .now) (a .d) s rest tail g e
@@ -66,7 +66,7 @@ step-spec =
     (λ c κs. let h = rw (c .before .before .before .before .before .before .before .before .before .before .before .t .given .1) at (c .before .before .before .before .before .before .before .before .before .before .before .before .before .rise .ensures) in (h .below, h .inside, c .before .before .before .before .before .before .before .before .before .before .before .before .before .before .before .before .before .before .before .pre .0, c .before .before .before .before .before .before .before .before .before .before .before .before .before .before .before .before .before .before .before .pre .1, c .before .before .before .before .before .before .before .before .before .before .before .before .before .before .before .before .before .before .before .pre .2))
     (λ c.
     let a = c .before .before .before .before .before .before .before .before .before .before .before .before .before .before .before .before .before .before .before .before .args in
-    let f = last-found slash (a .q .now) _ (c .before .before .before .before .before .before .before .before .before .before .before .before .before .before .before .before .before .rfind .ensures) (omega (arith, last-inside slash (a .q .now), c .before .before .before .before .before .before .before .before .before .before .before .before .before .before .before .before .before .rfind .ensures, c .before .before .before .before .before .before .before .before .before .before .before .before .before .before .before .before .if1 .left)) in
+    let f = last-there slash (a .q .now) _ (c .before .before .before .before .before .before .before .before .before .before .before .before .before .before .before .before .before .rfind .ensures) (c .before .before .before .before .before .before .before .before .before .before .before .before .before .before .before .before .if1 .left) in
     let h = rw (c .before .before .before .before .before .before .before .before .before .before .before .before .t .given .1) at (c .before .before .before .before .before .before .before .before .before .before .before .before .before .before .rise .ensures) in
     let t = cut-of (a .q .now) _ _ f (c .before .before .before .before .before .before .before .before .before .before .before .before .before .before .before .if2 .left) (c .before .before .before .before .before .before .before .before .before .before .cut .ensures) (omega (arith, h .below, c .before .before .before .before .before .before .before .before .before .before .cut .ensures, c .before .before .before .before .before .before .before .before .before .if3 .left)) in (
       c .remark .ensures .size,
