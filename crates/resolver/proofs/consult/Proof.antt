@@ -18,4 +18,4 @@ consult-spec =
     (λ c κs. search needs)
     (λ c. search needs)
     (λ c. search needs)
-    (λ c. (c .before .before .before .before .before .before .before .state-of .ensures _ ∙ ap asked (c .before .before .before .before .before .before .before .before .search .ensures .0), λ res. c .before .before .before .before .note .ensures res)))
+    (λ c. (c .before .before .before .before .before .before .before .state-of .ensures _ ∙ ap asked (c .before .before .before .before .before .before .before .before .search .ensures .entry), λ res. c .before .before .before .before .note .ensures res)))

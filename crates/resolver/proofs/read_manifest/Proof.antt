@@ -35,4 +35,4 @@ read-manifest-spec =
     let p = c .before .before .before .before .before .before .before .before .before .before .first .ensures in
     let f = c .before .before .before .before .before .before .before .before .before .search in
     let l = c .before .before .before .before .before .before .before .before .before .before .before .before .before .before .before .before .before .before .before .before .before .args .l .now in
-    λ G res. rw (c .before .before .before .before .before .before .before .before .manifest-of .ensures) (manifest-fits _ _ _ b (c .before .before .before .before .before .before .before .before .before .before .before .before .before .before .if1 .left) (done-opened G l _ (f .result) _ _ _ (rw p at (f .ensures .0)) (c .before .before .before .before .before .before .before .opened-state .ensures l) (rw p at (c .before .before .before .before .note .ensures res))))))
+    λ G res. rw (c .before .before .before .before .before .before .before .before .manifest-of .ensures) (manifest-fits _ _ _ b (c .before .before .before .before .before .before .before .before .before .before .before .before .before .before .if1 .left) (done-opened G l _ (f .result) _ _ _ (rw p at (f .ensures .entry)) (c .before .before .before .before .before .before .before .opened-state .ensures l) (rw p at (c .before .before .before .before .note .ensures res))))))
