@@ -62,7 +62,8 @@ search-spec =
     let n : c .before .before .before .before .before .before .before .before .before .before .number .result ≡ entryCount l = c .before .before .before .before .before .before .before .before .before .before .number .ensures .0 in
     let m : c .before .before .before .before .number-at2 .result ≡ contentsMarkAt l i = c .before .before .before .before .number-at2 .ensures .0 ∙ ap (λ (n : ℕ). number32 (drop (8 + 4 * n + 4 * i) l)) n in
     let e : eqb (contentsMarkAt l i) directoryMark ≡ false = ne-eqb _ _ (λ z. c .before .if4 .left (m ∙ z)) in
-    let x : c .reach .result ≡ min (c .before .before .before .before .before .before .before .loop .at + c .before .before .before .before .before .number-at .result + contentsLength (contentsMarkAt l i)) (length l) = c .reach .ensures ∙ rw (e, m) in
+    let y : c .before .before .before .before .number-at2 .result ≡ contentsLength (contentsMarkAt l i) = m ∙ sym (rw e) in
+    let x : c .reach .result ≡ min (c .before .before .before .before .before .before .before .loop .at + c .before .before .before .before .before .number-at .result + contentsLength (contentsMarkAt l i)) (length l) = c .reach .ensures ∙ ap (λ (k : ℕ). min (c .before .before .before .before .before .before .before .loop .at + c .before .before .before .before .before .number-at .result + k) (length l)) y in
     let b : c .before .before .before .before .before .before .before .loop .at + c .before .before .before .before .before .number-at .result ≤ length l = leb-true _ _ (and-true _ _ (sym (c .before .before .before .matches .ensures) ∙ c .before .before .if3 .taken) .0) in
     record {
       entry = rw e at (seek-hit l (a .path .now) i (c .before .before .before .before .before .before .before .loop .at) _ _ (c .before .before .before .before .before .before .before .loop .inv .2) (omega (arith, c .before .before .before .before .before .before .loop-test .taken)) (ap (λ (k : ℕ). c .before .before .before .before .before .before .before .loop .at + k) (c .before .before .before .before .before .number-at .ensures .0)) (sym (c .before .before .before .matches .ensures) ∙ c .before .before .if3 .taken) x);
