@@ -1,51 +1,23 @@
--- Texts that agree, and the names at places.
+-- The names at places.
 use mathlib.Core.Path.{_≡_, refl, sym, _∙_, ap}
 use mathlib.Core.Bool.{Bool, true, false}
-use mathlib.Core.List.{List, [], _∷_, _++_, append-assoc}
+use mathlib.Core.List.{List, [], _∷_}
 use Prim.Native.Nat.{ℕ, _+_, _*_, _%_, _<_, _≤_}
 use lib.ListN.{length, drop, getD, take}
-use borrow.Author.Tests.{eq-eqb, ne-eqb}
 use Rattle.definition.specs.Text.{equal, isOneOf}
 use Rattle.definition.specs.TextLaws.{equal-true}
 use Rattle.definition.specs.Json as json
 use Rattle.definition.specs.Json.{Read, got, fault, skipSpace, quoted, memberName}
 use Rattle.package_json.specs.Scanned.{faultOf, Reads}
 use Rattle.package_json.specs.Decoded.{decoded, Decodes}
-use Rattle.package_json.specs.Names.{Matches, markOf, Named, nobody, also, freshOf, Key, NameRead, keyOf, colonAt}
+use Rattle.package_json.specs.Names.{markOf, Named, nobody, also, freshOf, Key, NameRead, keyOf, colonAt}
 use Rattle.package_json.specs.declared.Fault as code
 use Rattle.package_json.specs.declared.Scan.{Scan}
 use Rattle.package_json.specs.declared.Scan.the-variants.{End, Fault}
 use Rattle.package_json.specs.declared.Text.{Text}
 use Rattle.package_json.specs.declared.Name.{Name}
-use Rattle.package_json.specs.declared.Match.{Match}
-use Rattle.package_json.specs.declared.Match.the-variants.{To, No}
 use Rattle.package_json.proofs.Rules.{here, past}
 use Rattle.package_json.proofs.Laws.{was-end, was-fault}
-
--- one byte of a key
-module _ (key : List ℕ) (k b : ℕ) where
-  pub match-yes : k < length key → getD key k 0 ≡ b → Matches key k (b ∷ []) (To (k + 1))
-  unfolding equal
-  match-yes l e = record { is = λ t. rw (here key k l) (rw (eq-eqb b (getD key k 0) (sym e))) }
-
-  pub match-other : k < length key → (getD key k 0 ≡ b → ⊥) → Matches key k (b ∷ []) No
-  unfolding equal
-  match-other l e = record { is = λ t. rw (here key k l) (rw (ne-eqb b (getD key k 0) (λ q. e (sym q)))) }
-
-  pub match-end : length key ≤ k → Matches key k (b ∷ []) No
-  unfolding equal
-  match-end l = record { is = λ t. rw (past key k l) }
-
--- one byte more
-module _ {key : List ℕ} {from : ℕ} {out : List ℕ} {q : Match} (b : ℕ) (f : Matches key from out q) where
-  pub match-more : {i : ℕ} {r : Match} → q ≡ To i → Matches key i (b ∷ []) r → Matches key from (out ++ (b ∷ [])) r
-  match-more e g = record { is = λ t. append-assoc-first t ∙ rw e at (f .is (b ∷ t)) ∙ g .is t }
-    where
-      append-assoc-first : (t : List ℕ) → equal ((out ++ (b ∷ [])) ++ t) (drop from key) ≡ equal (out ++ (b ∷ t)) (drop from key)
-      append-assoc-first t = rw (append-assoc out (b ∷ []) t)
-
-  pub match-none : q ≡ No → Matches key from (out ++ (b ∷ [])) No
-  match-none e = record { is = λ t. rw (append-assoc out (b ∷ []) t) (rw e at (f .is (b ∷ t))) }
 
 -- the mark, one byte further
 pub mark-on : (s : List ℕ) (h i : ℕ) → i < length s → markOf h (drop i s) ≡ markOf (h % 72057594037927936 * 131 + getD s i 0) (drop (i + 1) s)

@@ -15,16 +15,10 @@ use Rattle.definition.specs.Json as json
 use Rattle.definition.specs.Json.{got, fault, malformed, beyond, andThen, between, sequence, bad, gives, plainByte, sequenceByte, step, goOn, string, quoted}
 use Rattle.package_json.specs.Scanned.{left, Reads}
 use Rattle.package_json.specs.Decoded.{Begun, plain}
-use Rattle.package_json.specs.Automaton.{placeOf, outOf, stepOf, Good, Fair, Steps}
-use Rattle.package_json.specs.Names.{Matches}
 use Rattle.package_json.specs.Cursors.{startsQuote}
 use Rattle.package_json.specs.declared.Place.{Place}
-use Rattle.package_json.specs.declared.Out.{Out}
 use Rattle.package_json.specs.declared.Step.{Step}
-use Rattle.package_json.specs.declared.Step.the-variants.{Bad, Close, Gives}
-use Rattle.package_json.specs.declared.Scan.the-variants.{End, Fault}
-use Rattle.package_json.specs.declared.Fault.the-variants.{Malformed, Beyond}
-use Rattle.package_json.specs.declared.Match.the-variants.{To, No}
+use Rattle.package_json.specs.declared.Scan.the-variants.{End}
 use Rattle.package_json.proofs.Rules.{here, past}
 use Rattle.package_json.proofs.Laws.{left-map}
 
@@ -218,57 +212,9 @@ begun-on {m} {at} {i} g l lo hi q a h =
       rest = g .rest ∙ rw (here m i l) (gives-left (1024 - (i - at)) between between (getD m i 0) (drop (i + 1) m) (getD m i 0 ∷ []) (ascii-step (getD m i 0) lo hi q a) (omega arith) ∙ rw z);
     }
 
--- the loop over a string
-pub record Scanning (m : List ℕ) (at : ℕ) (p : Place) (i n : ℕ) : Type 0 where
-  pub room : n ≤ 1024
-  pub good : Good p
-  pub rest : left (string 1024 between (drop at m)) ≡ left (string (1024 - n) (placeOf p) (drop i m))
-
-pub scan-start : {m : List ℕ} {at i : ℕ} → Begun m at i → Scanning m at Place.Between i (i - at)
-scan-start g = record { room = g .room; good = tt; rest = g .rest }
-
-module _ {m : List ℕ} {at : ℕ} {p : Place} {i n : ℕ} (g : Scanning m at p i n) where
-  pub scan-end : length m ≤ i → Reads m (string 1024 between (drop at m)) (Fault Malformed)
-  unfolding string
-  scan-end l = record { is = g .rest ∙ rw (past m i l) }
-
-  module _ (l : i < length m) {s : Step} (e : Steps (step (placeOf p) (getD m i 0)) s) where
-    turn : (q : Step) → s ≡ q → left (string 1024 between (drop at m)) ≡ left (goOn (stepOf q) (1024 - n) (λ r q. string r q (drop (i + 1) m)) (drop (i + 1) m))
-    unfolding string
-    turn q h = g .rest ∙ rw (here m i l) (rw (sym (e .is) ∙ ap stepOf h))
-
-    pub scan-bad : s ≡ Bad → Reads m (string 1024 between (drop at m)) (Fault Malformed)
-    unfolding goOn
-    scan-bad h = record { is = turn Bad h }
-
-    pub scan-close : s ≡ Close → Reads m (string 1024 between (drop at m)) (End (i + 1))
-    unfolding goOn
-    scan-close h = record { is = turn Close h }
-
-    module _ {o : Out} {q : Place} {k : ℕ} (h : s ≡ Gives o q) (c : k ≡ length (outOf o)) where
-      pub scan-over : 1024 - n < k → Reads m (string 1024 between (drop at m)) (Fault Beyond)
-      unfolding goOn
-      scan-over b = record { is = turn (Gives o q) h ∙ rw (lt-leb (length (outOf o)) (1024 - n) (omega arith)) }
-
-      pub scan-gives : k ≤ 1024 - n → Scanning m at q (i + 1) (n + k)
-      unfolding goOn
-      scan-gives b =
-          let z = g .room in
-          let y : 1024 - n - length (outOf o) ≡ 1024 - (n + k) = omega arith in
-          record {
-            room = omega arith;
-            good = rw h at (e .good) .1;
-            rest =
-                turn (Gives o q) h
-                ∙ rw (le-leb (length (outOf o)) (1024 - n) (omega arith)) (left-map (λ t. outOf o ++ t) (string (1024 - n - length (outOf o)) (placeOf q) (drop (i + 1) m)) ∙ rw y);
-          }
-
--- what a step gives is in range
-pub fair-out : {x : json.Step} {s : Step} {o : Out} {q : Place} → Steps x s → s ≡ Gives o q → Fair o
-fair-out e h = rw h at (e .good) .0
-
-pub good-place : {x : json.Step} {s : Step} {o : Out} {q : Place} → Steps x s → s ≡ Gives o q → Good q
-good-place e h = rw h at (e .good) .1
+pub begun-quote : {m : List ℕ} {at i : ℕ} → Begun m at i → i < length m → getD m i 0 ≡ 34 → Reads m (string 1024 between (drop at m)) (End (i + 1))
+unfolding string goOn step plainByte
+begun-quote {m} {at} {i} g l q = record { is = g .rest ∙ rw (here m i l) (rw q) }
 
 -- a text is compared with what is left of another: to the end of both
 pub ends-both : (key : List ℕ) (k : ℕ) → leb (length key) k ≡ equal [] (drop k key)
@@ -286,32 +232,9 @@ pub record Compared (m key : List ℕ) (p : json.Place) (i k : ℕ) (t s from : 
   pub reads : string room p (drop i m) ≡ got text s
   pub same : equal t from ≡ equal text (drop k key)
 
-module _ {m key : List ℕ} {i k : ℕ} {t s from : List ℕ} where
-  pub compared-out : {p : json.Place} {P : Type 0} → Compared m key p i k t s from → length m ≤ i → P
-  unfolding string
-  compared-out c l = none (let h = rw (past m i l) at (c .reads) in let z : _≡_ {A = ℕ} 0 1 = cc in omega arith)
-
-  module _ (p : Place) (c : Compared m key (placeOf p) i k t s from) (l : i < length m) {x : Step} (e : Steps (step (placeOf p) (getD m i 0)) x) where
-    stepped : (q : Step) → x ≡ q → goOn (stepOf q) (c .room) (λ r q. string r q (drop (i + 1) m)) (drop (i + 1) m) ≡ got (c .text) s
-    unfolding string
-    stepped q h = rw (sym (sym (e .is) ∙ ap stepOf h)) (rw (here m i l) at (c .reads))
-
-    pub compared-bad : {P : Type 0} → x ≡ Bad → P
-    unfolding goOn
-    compared-bad h = none (let y = stepped Bad h in let z : _≡_ {A = ℕ} 0 1 = cc in omega arith)
-
-    pub compared-close : x ≡ Close → equal [] (drop k key) ≡ equal t from
-    unfolding goOn
-    compared-close h = let y = stepped Close h in let z : c .text ≡ [] = cc in sym (c .same ∙ rw z)
-
-    module _ {o : Out} {q : Place} (h : x ≡ Gives o q) where
-      pub compared-no : Matches key k (outOf o) No → false ≡ equal t from
-      compared-no f = let z = took (c .room) (placeOf q) (drop (i + 1) m) (outOf o) (c .text) s (stepped (Gives o q) h) in sym (c .same ∙ ap (λ x. equal x (drop k key)) (z .1 .1) ∙ f .is (z .0))
-
-      pub compared-on : {j : ℕ} → Matches key k (outOf o) (To j) → Compared m key (placeOf q) (i + 1) j t s from
-      compared-on {j} f =
-          let z = took (c .room) (placeOf q) (drop (i + 1) m) (outOf o) (c .text) s (stepped (Gives o q) h) in
-          record { room = c .room - length (outOf o); text = z .0; reads = z .1 .0; same = c .same ∙ ap (λ x. equal x (drop k key)) (z .1 .1) ∙ f .is (z .0) }
+pub compared-out : {m key : List ℕ} {i k : ℕ} {t s from : List ℕ} {p : json.Place} {P : Type 0} → Compared m key p i k t s from → length m ≤ i → P
+unfolding string
+compared-out {m} {i = i} c l = none (let h = rw (past m i l) at (c .reads) in let z : _≡_ {A = ℕ} 0 1 = cc in omega arith)
 
 -- the same byte by byte, while no escape was met
 pub record Verbatim (m key : List ℕ) (i k : ℕ) (t s : List ℕ) : Type 0 where
@@ -326,14 +249,6 @@ module _ {m key : List ℕ} {i k : ℕ} {t s : List ℕ} (v : Verbatim m key i k
 
   pub verbatim-close : getD m i 0 ≡ 34 → equal [] (drop k key) ≡ equal t key
   verbatim-close e = let z : v .so-far .text ≡ [] = ends (v .place) (v .calm) (v .so-far .room) (drop (i + 1) m) (v .so-far .text) s (rw e at byte) in sym (v .so-far .same ∙ rw z)
-
-  pub verbatim-escape : getD m i 0 ≡ 92 → Compared m key between i k t s key
-  unfolding step goOn within string
-  verbatim-escape e = go (v .place) (v .calm) (v .so-far)
-    where
-      go : (p : json.Place) → Calm p → Compared m key p i k t s key → Compared m key between i k t s key
-      go p free c = c
-      go p (inner n lo hi b) c = none (let h = rw (lt-leb lo 92 (omega arith)) at (rw (here m i l ∙ ap (λ x. x ∷ drop (i + 1) m) e) at (c .reads)) in let z : _≡_ {A = ℕ} 0 1 = cc in omega arith)
 
   module _ (q : getD m i 0 ≡ 34 → ⊥) (a : getD m i 0 ≡ 92 → ⊥) where
     there : (p : json.Place) × (Calm p × ((u : List ℕ) × ((string (v .so-far .room - 1) p (drop (i + 1) m) ≡ got u s) × (v .so-far .text ≡ getD m i 0 ∷ u))))

@@ -3,25 +3,15 @@ use mathlib.Core.Path.{_≡_}
 use Prim.Native.Nat.{ℕ, _+_, _*_, _%_}
 use Prim.Native.Char.{code}
 use mathlib.Core.Bool.{Bool, true, false}
-use mathlib.Core.List.{List, [], _∷_, _++_}
+use mathlib.Core.List.{List, [], _∷_}
 use lib.ListN.{drop}
 use lib.Dec.{eqb}
 use Rattle.definition.specs.Text.{if_then_else_, equal}
 use Rattle.definition.specs.Json.{Read, got, fault, malformed, andThen, skipSpace, quoted, memberName}
 use Rattle.package_json.specs.Scanned.{faultOf}
-use Rattle.package_json.specs.declared.Match.{Match}
-use Rattle.package_json.specs.declared.Match.the-variants.{To, No}
 use Rattle.package_json.specs.declared.Name.{Name}
 use Rattle.package_json.specs.declared.Name.the-variants.{New, Fault}
 use Rattle.package_json.specs.declared.Fault.the-variants.{Twice}
-
--- a text that begins with `out` was compared with `key` from the place k on
-abbrev pub agrees : List ℕ → List ℕ → Match → Bool
-agrees key t (To j) = equal t (drop j key)
-agrees key t No = false
-
-pub record Matches (key : List ℕ) (k : ℕ) (out : List ℕ) (r : Match) : Type 0 where
-  pub is : (t : List ℕ) → equal (out ++ t) (drop k key) ≡ agrees key t r
 
 -- a name's mark: equal names have equal marks, and names with other marks need no comparison
 unfoldable pub markOf : ℕ → List ℕ → ℕ

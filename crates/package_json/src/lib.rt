@@ -8,8 +8,8 @@ ghost use Rattle.definition.specs.JsonAt.{check as checkOf, kindAt, textEnd, op
 ghost use Rattle.package_json.specs.Cursors.{checkedOf, numberOf, kindOf, placed, Ahead, Hops, startsQuote, textOf, told, orEmpty};
 ghost use Rattle.package_json.specs.Automaton.{placeOf, stepOf, outOf, Steps, Good, High, Below, leadByte, digitOf, Fair};
 ghost use Rattle.package_json.specs.Decoded.{Begun, Puts, Decodes, plain};
-ghost use mathlib.Core.List.{List, [], _∷_, _++_};
-ghost use Rattle.package_json.specs.Names.{Matches, markOf, Named, freshOf, NameRead, KeyRead, colonAt, keyOf};
+ghost use mathlib.Core.List.{List, [], _∷_};
+ghost use Rattle.package_json.specs.Names.{markOf, Named, freshOf, NameRead, KeyRead, colonAt, keyOf};
 ghost use Rattle.package_json.specs.Scanned.{faultOf, Reads, scalarOf, afterOf, afterAt};
 
 // 01's limits: bytes of a manifest, brackets open at once, members of an object or elements of an array, decoded bytes of a string.
@@ -573,28 +573,6 @@ fn put_out(w: &mut [u8], n: usize, o: Out) -> Put
     }
 }
 
-// How many decoded bytes an output has.
-fn size(o: Out) -> usize
-    ensures { λ r. ⌜ r ≡ length (outOf o) ⌝ }
-{
-    match o {
-        Out::None => 0,
-        Out::Byte(_) => 1,
-        Out::Point(c) => {
-            if c < 128 {
-                return 1;
-            }
-            if c < 2048 {
-                return 2;
-            }
-            if c < 65536 {
-                return 3;
-            }
-            4
-        }
-    }
-}
-
 // The end of the ASCII bytes from `at` on that stand for themselves, within the limit of a string: most strings have no others.
 fn ascii(m: &[u8], at: usize) -> usize
     ensures { λ r. ⌜ Begun (now (m .entry)) at r ⌝ }
@@ -620,44 +598,6 @@ fn ascii(m: &[u8], at: usize) -> usize
         i += 1;
     }
     i
-}
-
-// A string behind its opening quote: where it ends.
-fn string(m: &[u8], at: usize) -> Scan
-    ensures { λ r. ⌜ Reads (now (m .entry)) (stringOf 1024 between (drop at (now (m .entry)))) r ⌝ }
-{
-    let mut i = ascii(m, at);
-    let mut n = i - at;
-    let mut p = Place::Between;
-    while i < m.len() {
-        let s = advance(p, m[i]);
-        match s {
-            Step::Bad => return Scan::Fault(Fault::Malformed),
-            Step::Close => return Scan::End(i + 1),
-            Step::Gives(o, q) => {
-                let k = size(o);
-                if k > ROOM - n {
-                    return Scan::Fault(Fault::Beyond);
-                }
-                n += k;
-                p = q;
-                i += 1;
-            }
-        }
-    }
-    Scan::Fault(Fault::Malformed)
-}
-
-// A string from its opening quote.
-fn quoted(m: &[u8], at: usize) -> Scan
-    ensures { λ r. ⌜ Reads (now (m .entry)) (quotedOf (drop at (now (m .entry)))) r ⌝ }
-{
-    if at < m.len() {
-        if m[at] == b'"' {
-            return string(m, at + 1);
-        }
-    }
-    Scan::Fault(Fault::Malformed)
 }
 
 // Where a string ends and how many decoded bytes it has, or its fault.
@@ -695,6 +635,43 @@ fn decode(m: &[u8], at: usize, w: &mut [u8]) -> Text
     Text::Fault(Fault::Malformed)
 }
 
+// A string behind its opening quote: where it ends. Most strings end with their ASCII bytes.
+fn string(m: &[u8], at: usize) -> Scan
+    ensures { λ r. ⌜ Reads (now (m .entry)) (stringOf 1024 between (drop at (now (m .entry)))) r ⌝ }
+{
+    let end = ascii(m, at);
+    if end < m.len() {
+        if m[end] == 34 {
+            return Scan::End(end + 1);
+        }
+    }
+    any_string(m, at)
+}
+
+// The same for any string.
+fn any_string(m: &[u8], at: usize) -> Scan
+    ensures { λ r. ⌜ Reads (now (m .entry)) (stringOf 1024 between (drop at (now (m .entry)))) r ⌝ }
+{
+    let mut w = [0u8; 1024];
+    let read = decode(m, at, &mut w);
+    match read {
+        Text::Fault(f) => Scan::Fault(f),
+        Text::End(end, _) => Scan::End(end),
+    }
+}
+
+// A string from its opening quote.
+fn quoted(m: &[u8], at: usize) -> Scan
+    ensures { λ r. ⌜ Reads (now (m .entry)) (quotedOf (drop at (now (m .entry)))) r ⌝ }
+{
+    if at < m.len() {
+        if m[at] == b'"' {
+            return string(m, at + 1);
+        }
+    }
+    Scan::Fault(Fault::Malformed)
+}
+
 // Where the text of a string that has no escape ends: the first quote or backslash.
 fn plain_end(m: &[u8], from: usize) -> usize
     ensures { λ r. ⌜ r ≡ from + length (plain (drop from (now (m .entry)))) ⌝ }
@@ -713,94 +690,16 @@ fn plain_end(m: &[u8], from: usize) -> usize
     i
 }
 
-// How far a text agrees: to a place, or no more.
-enum Match {
-    To(usize),
-    No,
-}
-
-// Whether a byte of the text `key` is b.
-fn match_byte(key: &[u8], k: usize, b: u8) -> Match
-    ensures { λ r. ⌜ Matches (now (key .entry)) k (b ∷ []) r ⌝ }
+// Whether a string, behind its opening quote, is the text `key`.
+fn decoded_is(m: &[u8], at: usize, key: &[u8]) -> bool
+    ensures { λ r. ⌜ ((t s : List ℕ) → stringOf 1024 between (drop at (now (m .entry))) ≡ got t s → r ≡ equalOf t (now (key .entry))) ⌝ }
 {
-    if k < key.len() {
-        if key[k] == b {
-            return Match::To(k + 1);
-        }
+    let mut w = [0u8; 1024];
+    let read = decode(m, at, &mut w);
+    match read {
+        Text::Fault(_) => false,
+        Text::End(_, n) => text::equal(&w[..n], key),
     }
-    Match::No
-}
-
-// The same for the last six bits of a code point.
-fn match_trail(key: &[u8], k: Match, c: u32) -> Match
-    ensures { λ r. ⌜ ((from : ℕ) (out : List ℕ) → Matches (now (key .entry)) from out k → Matches (now (key .entry)) from (out ++ (trailOf c ∷ [])) r) ⌝ }
-{
-    match k {
-        Match::No => Match::No,
-        Match::To(i) => match_byte(key, i, trail(c)),
-    }
-}
-
-// The same for the UTF-8 bytes of a code point.
-fn match_point(key: &[u8], k: usize, c: u32) -> Match
-    requires { ⌜ c < 1114112 ⌝ }
-    ensures { λ r. ⌜ Matches (now (key .entry)) k (utf8 c) r ⌝ }
-{
-    if c < 128 {
-        return match_byte(key, k, c as u8);
-    }
-    if c < 2048 {
-        let one = match_byte(key, k, (192 + c / 64) as u8);
-        return match_trail(key, one, c);
-    }
-    if c < 65536 {
-        let one = match_byte(key, k, (224 + c / 4096) as u8);
-        let two = match_trail(key, one, c / 64);
-        return match_trail(key, two, c);
-    }
-    let one = match_byte(key, k, (240 + c / 262144) as u8);
-    let two = match_trail(key, one, c / 4096);
-    let three = match_trail(key, two, c / 64);
-    match_trail(key, three, c)
-}
-
-fn match_out(key: &[u8], k: usize, o: Out) -> Match
-    requires { ⌜ Fair o ⌝ }
-    ensures { λ r. ⌜ Matches (now (key .entry)) k (outOf o) r ⌝ }
-{
-    match o {
-        Out::None => Match::To(k),
-        Out::Byte(b) => match_byte(key, k, b),
-        Out::Point(c) => match_point(key, k, c),
-    }
-}
-
-// Whether the rest of a string, from between two of its characters on, is the text `key` from a place on. The string is known to be good.
-fn rest_is(m: &[u8], at: usize, key: &[u8], from: usize) -> bool
-    ensures { λ r. ⌜ ((room : ℕ) (t s : List ℕ) → stringOf room between (drop at (now (m .entry))) ≡ got t s → r ≡ equalOf t (drop from (now (key .entry)))) ⌝ }
-{
-    let mut p = Place::Between;
-    let mut i = at;
-    let mut k = from;
-    while i < m.len() {
-        let s = advance(p, m[i]);
-        match s {
-            Step::Bad => return false,
-            Step::Close => return k >= key.len(),
-            Step::Gives(o, q) => {
-                let t = match_out(key, k, o);
-                match t {
-                    Match::No => return false,
-                    Match::To(n) => {
-                        k = n;
-                        p = q;
-                        i += 1;
-                    }
-                }
-            }
-        }
-    }
-    false
 }
 
 // Whether the string at a place, known to be good, is the text `key`: byte by byte up to its first escape.
@@ -818,7 +717,7 @@ fn same_text(m: &[u8], at: usize, key: &[u8]) -> bool
             return k >= key.len();
         }
         if b == 0x5c {
-            return rest_is(m, i, key, k);
+            return decoded_is(m, at + 1, key);
         }
         if k >= key.len() {
             return false;
