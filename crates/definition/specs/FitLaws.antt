@@ -13,7 +13,7 @@ use Rattle.definition.specs.Text.{text, if_then_else_, slash, star, hash
 use Rattle.definition.specs.TextLaws.{equal-true}
 use Rattle.definition.specs.TextSteps.{before-inside}
 use Rattle.definition.specs.Path.{Component, rootDir, curDir, parentDir, normal, component, leading, components, push, orRoot, parent, pops, Built, built, tooLong, andPath, limited, pushComponent, pushAll, normalizeOnto, normalizeWith, pushRelative, normalizeRelative, isInvalidExportsTarget, addExtension, addNameAndExtension, manifestOf, depth, climb, dirs}
-use Rattle.definition.specs.Specifier.{Specifier, parsed, emptySpecifier, beforeFragment, unescape, pathBefore, orEmpty, parseSpecifier, packageName, packageSubpath, dotSubpath, stripPackageName, normalizedSpecifier, climbing}
+use Rattle.definition.specs.Specifier.{Specifier, parsed, emptySpecifier, beforeFragment, body, unescape, pathBefore, orEmpty, parseSpecifier, packageName, packageSubpath, dotSubpath, stripPackageName, normalizedSpecifier, climbing}
 use Rattle.definition.specs.Json.{Json}
 use Rattle.definition.specs.Exports.{Failure, NotFound, Empty, InvalidPackageTarget, PackagePathNotExported, InvalidPackageConfig, InvalidPackageConfigDirectory, JsonError, failureTexts, Context, Outcome, found, nothing, failed, overlong, Resolved, orOld, withQueryFragment, starMatch, isSubpathKey, patternMatch, Target, target, directoryError, normalizeStringTarget, Request, outcomeOf, invalidTarget, targetPath, stringTarget, orDot, pathNotExported, PACKAGE-EXPORTS-RESOLVE}
 use Rattle.definition.specs.Called.{joined}
@@ -88,6 +88,11 @@ beforeFragment-short p (b ∷ s) =
     let h : length (beforeFragment b s) ≤ length s = beforeFragment-short b s in
     if-short (suc (length s)) (eqb b hash && not (eqb p 0)) [] (b ∷ beforeFragment b s) (omega arith) (omega arith)
 
+body-short : (s : List ℕ) → length (body s) ≤ length s
+unfolding body
+body-short [] = omega arith
+body-short (b ∷ s) = omega (arith, beforeFragment-short b s)
+
 unescape-short : (s : List ℕ) → length (unescape s) ≤ length s
 unfolding unescape
 unescape-short [] = omega arith
@@ -116,14 +121,12 @@ orEmpty-fits (b ∷ p) q f x y z = (x, (y, z))
 
 parse-fits : (s : List ℕ) → Small s → SpecifierFits (parseSpecifier s)
 unfolding parseSpecifier from
-parse-fits [] h = tt
-parse-fits (b ∷ s) h =
-    let body = b ∷ beforeFragment b s in
-    let l : length body ≤ length (b ∷ s) = let x = beforeFragment-short b s in omega arith in
-    orEmpty-fits (pathBefore body) (drop (length (before question body)) body) (drop (length body) (b ∷ s))
-    (omega (arith, path-short body))
-    (omega (arith, length-drop (length (before question body)) body))
-    (omega (arith, length-drop (length body) (b ∷ s)))
+parse-fits s h =
+    let l : length (body s) ≤ length s = body-short s in
+    orEmpty-fits (pathBefore (body s)) (drop (length (before question (body s))) (body s)) (drop (length (body s)) s)
+    (omega (arith, path-short (body s)))
+    (omega (arith, length-drop (length (before question (body s))) (body s)))
+    (omega (arith, length-drop (length (body s)) s))
 
 -- Exports ---------------------------------------------------------------------------------------------------------------------------
 

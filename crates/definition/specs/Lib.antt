@@ -15,6 +15,7 @@ pub mod Reordered
 -- Laws
 pub mod TextLaws
 pub mod TextSteps
+pub mod SpecifierLaws
 pub mod SettingsLaws
 pub mod PathLaws
 pub mod PathSteps

@@ -1,0 +1,5 @@
+pub mod Bare
+pub mod Fragment
+pub mod Parts
+pub mod Widening
+pub mod Parsed
