@@ -5,3 +5,5 @@ pub mod Buffer
 pub mod Names
 pub mod Values
 pub mod Whole
+pub mod Places
+pub mod Texts

@@ -4,7 +4,9 @@ ghost use Prim.Native.Nat.{ℕ, suc, _+_, _-_, _≤_, _<_};
 ghost use lib.ListN.{length, drop, take};
 ghost use Rattle.definition.specs.Text.{isDigit, hexDigit, utf8, trail as trailOf, equal as equalOf};
 ghost use Rattle.definition.specs.Json.{isSpace, skipSpace, skipDigits, digits as digitsOf, startsValue, sign as signOf, exponent as exponentOf, fraction as fractionOf, integer as integerOf, word as wordOf, plainByte, escapeByte, unit as unitOf, pair as pairOf, hexByte, secondHexByte, step as stepBy, sequence, between, string as stringOf, quoted as quotedOf, memberName, Read, Json, value as valueOf, array as arrayOf, object as objectOf, elements as elementsOf, members as membersOf, got, str, replaceBom, obj, Members, member, Elements, element as elementOf};
-ghost use Rattle.package_json.specs.Stands.{Root};
+ghost use Rattle.package_json.specs.Stands.{Root, Stands, MembersAt, MembersFrom, ElementsAt, ElementsFrom, First, Past, kindOf, Finds};
+ghost use Rattle.package_json.specs.Texts.{plain, textOf, TextRead};
+ghost use Rattle.definition.specs.Exports.{get as getOf, entries};
 ghost use Rattle.package_json.specs.Automaton.{placeOf, stepOf, outOf, Steps, Good, High, Below, leadByte, digitOf, Fair};
 ghost use Rattle.package_json.specs.Decoded.{Puts, Decodes};
 ghost use mathlib.Core.List.{List, [], _∷_};
@@ -814,6 +816,227 @@ fn skip_text(m: &[u8], at: usize) -> Scan
     match read {
         Text::Fault(n) => Scan::Fault(n),
         Text::End(end, _) => Scan::End(end),
+    }
+}
+
+// Where the next member or element begins, if there is one.
+pub enum Cursor {
+    At(usize),
+    Done,
+}
+
+// The kinds of values: all that anyone asks.
+pub enum Kind {
+    Scalar,
+    String,
+    Array,
+    Object,
+}
+
+pub fn kind_at(m: &[u8], at: usize) -> Kind
+    ensures { λ r. ⌜ ((d : ℕ) (j : Json) → Stands (now (m .entry)) d at j → r ≡ kindOf j) ⌝ }
+{
+    if at < m.len() {
+        let b = m[at];
+        if b == b'"' {
+            return Kind::String;
+        }
+        if b == b'[' {
+            return Kind::Array;
+        }
+        if b == b'{' {
+            return Kind::Object;
+        }
+    }
+    Kind::Scalar
+}
+
+// The first member or element of what a bracket opens.
+pub fn first(m: &[u8], at: usize, bracket: u8) -> Cursor
+    ensures { λ r. ⌜ First (now (m .entry)) at bracket r ⌝ }
+{
+    if at < m.len() {
+        let i = skip_space(m, at + 1);
+        if i < m.len() {
+            if m[i] == bracket {
+                return Cursor::Done;
+            }
+            return Cursor::At(i);
+        }
+    }
+    Cursor::Done
+}
+
+// What comes behind the value at a place.
+pub fn past(m: &[u8], at: usize, depth: usize, bracket: u8) -> Cursor
+    ensures { λ r. ⌜ ((j : Json) (s : List ℕ) → valueOf depth (drop at (now (m .entry))) ≡ got j s → Past (now (m .entry)) (afterOf bracket (skipSpace s)) r) ⌝ }
+{
+    let read = value(m, at, depth);
+    match read {
+        Scan::Fault(_) => Cursor::Done,
+        Scan::End(end) => {
+            let then = after(m, end, bracket);
+            match then {
+                Then::Neither => Cursor::Done,
+                Then::Close(_) => Cursor::Done,
+                Then::More(next) => Cursor::At(next),
+            }
+        }
+    }
+}
+
+// Where the value of the member at a place begins.
+pub fn member_value(m: &[u8], at: usize) -> usize
+    ensures { λ r. ⌜ ((ns : List (List ℕ)) (k s : List ℕ) → keyOf ns (drop at (now (m .entry))) ≡ got k s → s ≡ drop r (now (m .entry))) ⌝ }
+{
+    let name = skip_text(m, at);
+    match name {
+        Scan::Fault(_) => at,
+        Scan::End(end) => {
+            let start = colon(m, end);
+            match start {
+                Scan::Fault(_) => at,
+                Scan::End(from) => from,
+            }
+        }
+    }
+}
+
+// The value of a member, and the next member.
+pub struct Entry {
+    pub value: usize,
+    pub next: Cursor,
+}
+
+pub fn entry_at(m: &[u8], at: usize, depth: usize) -> Entry
+    ensures { λ r. ⌜ ((n : ℕ) (k : List ℕ) (j : Json) (ms : Members) → MembersAt (now (m .entry)) depth n at (member k j ms) → Stands (now (m .entry)) depth (r .value) j × MembersFrom (now (m .entry)) depth (n - 1) ms (r .next)) ⌝ }
+{
+    let value = member_value(m, at);
+    let next = past(m, value, depth, b'}');
+    Entry { value, next }
+}
+
+// The next element.
+pub fn element(m: &[u8], at: usize, depth: usize) -> Cursor
+    ensures { λ r. ⌜ ((n : ℕ) (j : Json) (js : Elements) → ElementsAt (now (m .entry)) depth n at (elementOf j js) → Stands (now (m .entry)) depth at j × ElementsFrom (now (m .entry)) depth (n - 1) js r) ⌝ }
+{
+    past(m, at, depth, b']')
+}
+
+pub enum Found {
+    At(usize),
+    Nothing,
+}
+
+// The value of the member with a name, in the object at a place, whose values have `depth`.
+pub fn get(m: &[u8], at: usize, depth: usize, name: &[u8]) -> Found
+    ensures { λ r. ⌜ ((ms : Members) → Stands (now (m .entry)) (suc depth) at (obj ms) → Finds (now (m .entry)) depth (getOf (now (name .entry)) (entries ms)) r) ⌝ }
+{
+    let mut cursor = first(m, at, b'}');
+    let mut left: usize = 128;
+    while left > 0 {
+        match cursor {
+            Cursor::Done => return Found::Nothing,
+            Cursor::At(i) => {
+                let e = entry_at(m, i, depth);
+                let same = name_is(m, i, name);
+                if same {
+                    return Found::At(e.value);
+                }
+                cursor = e.next;
+                left -= 1;
+            }
+        }
+    }
+    Found::Nothing
+}
+
+// Where the text of a string that has no escape ends: the first quote or backslash.
+fn plain_end(m: &[u8], from: usize) -> usize
+    ensures { λ r. ⌜ r ≡ from + length (plain (drop from (now (m .entry)))) ⌝ }
+{
+    let mut i = from;
+    while i < m.len() {
+        let b = m[i];
+        if b == b'"' {
+            return i;
+        }
+        if b == b'\\' {
+            return i;
+        }
+        i += 1;
+    }
+    i
+}
+
+// A string's text: a part of the manifest, or of the work buffer where it was decoded.
+pub struct TextAt {
+    pub work: bool,
+    pub start: usize,
+    pub len: usize,
+}
+
+// The text of the string at a place; it is decoded into w only where it has an escape.
+pub fn read_text(m: &[u8], at: usize, w: &mut [u8]) -> TextAt
+    requires { ⌜ 1024 ≤ length (now w) ⌝ }
+    ensures { λ r. ⌜ ((d : ℕ) (s : List ℕ) → Stands (now (m .entry)) d at (str s) → TextRead (now (m .entry)) (now (w .entry)) (now (w .exit)) s r) ⌝ }
+{
+    if at >= m.len() {
+        return TextAt {
+            work: false,
+            start: 0,
+            len: 0,
+        };
+    }
+    let end = plain_end(m, at + 1);
+    if end < m.len() {
+        if m[end] == b'"' {
+            return TextAt {
+                work: false,
+                start: at + 1,
+                len: end - (at + 1),
+            };
+        }
+    }
+    let read = string(m, at + 1, w);
+    match read {
+        Text::Fault(_) => TextAt {
+            work: true,
+            start: 0,
+            len: 0,
+        },
+        Text::End(_, n) => TextAt {
+            work: true,
+            start: 0,
+            len: n,
+        },
+    }
+}
+
+// A part of a slice, as far as it goes.
+fn part_of(s: &[u8], start: usize, len: usize) -> &[u8]
+    ensures { λ r. ⌜ now r ≡ take len (drop start (now (s .entry))) ⌝ }
+{
+    if start >= s.len() {
+        return &s[0..0];
+    }
+    if len <= s.len() - start {
+        return &s[start..start + len];
+    }
+    &s[start..]
+}
+
+// The text itself: a part of one of two lent slices.
+pub fn text_at<'a>(m: &'a [u8], w: &'a [u8], t: TextAt) -> &'a [u8]
+    ensures { λ r. ⌜ now r ≡ textOf (now (m .entry)) (now (w .entry)) t ⌝ }
+{
+    let work = t.work;
+    let start = t.start;
+    let len = t.len;
+    if work {
+        part_of(w, start, len)
+    } else {
+        part_of(m, start, len)
     }
 }
 
