@@ -1,5 +1,6 @@
 // The exports algorithms of the Node.js documents, as lib.rs has them.
 use path::PathBuf;
+use specifier::Specifier;
 ghost use mathlib.Core.Path.{_≡_};
 ghost use mathlib.Core.List.{List, [], _++_};
 ghost use Prim.Native.Nat.{ℕ, _+_, _-_, _≤_, _<_, suc};
@@ -9,7 +10,8 @@ ghost use lib.Dec.{leb};
 ghost use Rattle.definition.specs.Text.{star, equal, endsWith, replace};
 ghost use Rattle.definition.specs.Path.{limited};
 ghost use Rattle.path.specs.Meaning.{pathOf};
-ghost use Rattle.definition.specs.Exports.{PATTERN-KEY-COMPARE, isSubpathKey, starMatch, patternMatch, orOld, withQueryFragment, Request, target, targetPath, normalizeStringTarget};
+ghost use Rattle.definition.specs.Exports.{PATTERN-KEY-COMPARE, isSubpathKey, starMatch, patternMatch, orOld, withQueryFragment, Request, target, targetPath, normalizeStringTarget, stringTarget};
+ghost use Rattle.definition.specs.Specifier.{parseSpecifier};
 ghost use Rattle.exports.specs.Keys.{rankOf, orderOf, matchOf};
 ghost use Rattle.exports.specs.Contexts.{contextOf};
 ghost use Rattle.exports.specs.Answers.{answerOf, resolved, Asked};
@@ -336,5 +338,36 @@ fn normalized_target(url: &[u8], form: Form, pattern: &[u8], t: &[u8], c: Contex
             }
             without_path(c, Outcome::ConfigDirectory)
         }
+    }
+}
+
+// A string as a target, which has at most 1,024 bytes.
+fn text_target(url: &[u8], form: Form, pattern: &[u8], s: &[u8], c: Context) -> Answer
+    ensures { λ r. ⌜ ((q : Request) → Asked q (now (url .entry)) form (now (pattern .entry)) → length (now (s .entry)) ≤ 1024 → answerOf q r ≡ stringTarget q (parseSpecifier (now (s .entry))) (now (s .entry)) (contextOf c)) ⌝ }
+{
+    let parsed = Specifier::parse(s);
+    if parsed.empty {
+        return Answer {
+            context: c,
+            path: PathBuf::from(s),
+            outcome: Outcome::Empty,
+        };
+    }
+    let query = parsed.query;
+    let fragment = parsed.fragment;
+    let context = c.with_query_fragment(
+        part(path::first(s, fragment), query, s.len()),
+        part(s, fragment, s.len()),
+    );
+    let path = parsed.path;
+    let n = path.len;
+    let t = path::first(&path.bytes, n);
+    if text::starts_with(t, b"./") {
+        return normalized_target(url, form, pattern, t, context);
+    }
+    Answer {
+        context,
+        path,
+        outcome: Outcome::InvalidTarget,
     }
 }
