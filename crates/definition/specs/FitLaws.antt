@@ -1,7 +1,7 @@
 -- HOW LONG THE TEXTS ARE: no path that is built has over 2,048 bytes, and the texts of what exports give, a path with query and fragment or
 -- an error, have at most 6,157 together.
-use mathlib.Core.Path.{_≡_, refl, sym, _∙_, ap}
-use Prim.Native.Nat.{ℕ, zero, suc, _+_, _-_, _*_, _≤_, _<_}
+use mathlib.Core.Path.{_≡_, refl, ap}
+use Prim.Native.Nat.{ℕ, zero, suc, _+_, _-_, _*_, _≤_}
 use native.Mathlib.Omega.{arith}
 use mathlib.Core.Bool.{Bool, true, false, not, _&&_, _||_}
 use mathlib.Core.List.{List, [], _∷_, _++_, flatMap}
@@ -9,13 +9,14 @@ use mathlib.Core.Option.{Option, none, some}
 use lib.ListN.{length, drop, take, length-append, length-take, length-drop}
 use lib.Dec.{eqb, leb, ltb}
 use borrow.Author.Tests.{leb-true, ltb-false}
-use Rattle.definition.specs.Text.{text, if_then_else_, slash, star, hash, question, equal, startsWith, endsWith, contains, containsText, before, from, after, beforeLast, split, toFirst, utf8}
+use Rattle.definition.specs.Text.{text, if_then_else_, slash, star, hash, question, equal, startsWith, endsWith, contains, containsText, before, from, after, split, toFirst, utf8}
 use Rattle.definition.specs.TextLaws.{equal-true}
 use Rattle.definition.specs.TextSteps.{before-inside}
-use Rattle.definition.specs.Path.{Component, rootDir, curDir, parentDir, normal, component, leading, components, push, orRoot, parent, pops, Built, built, tooLong, andPath, limited, pushComponent, pushAll, normalizeOnto, normalizeWith, pushRelative, normalizeRelative, isInvalidExportsTarget, addExtension, addNameAndExtension, manifestOf, depth, climb, dirs}
+use Rattle.definition.specs.Path.{Component, rootDir, curDir, parentDir, normal, component, leading, components, push, parent, pops, Built, built, tooLong, andPath, limited, pushComponent, pushAll, normalizeOnto, normalizeWith, pushRelative, normalizeRelative, isInvalidExportsTarget, addExtension, addNameAndExtension, manifestOf, depth, climb, dirs}
+use Rattle.definition.specs.PathLaws.{parent-short, room-high, push-length}
 use Rattle.definition.specs.Specifier.{Specifier, parsed, emptySpecifier, beforeFragment, body, unescape, pathBefore, orEmpty, parseSpecifier, packageName, packageSubpath, dotSubpath, stripPackageName, normalizedSpecifier, climbing}
 use Rattle.definition.specs.Json.{Json}
-use Rattle.definition.specs.Exports.{Failure, NotFound, Empty, InvalidPackageTarget, PackagePathNotExported, InvalidPackageConfig, InvalidPackageConfigDirectory, JsonError, failureTexts, Context, Outcome, found, nothing, failed, overlong, Resolved, orOld, withQueryFragment, starMatch, isSubpathKey, patternMatch, Target, target, directoryError, normalizeStringTarget, Request, outcomeOf, invalidTarget, targetPath, stringTarget, orDot, pathNotExported, PACKAGE-EXPORTS-RESOLVE}
+use Rattle.definition.specs.Exports.{Failure, failureTexts, Context, Outcome, found, nothing, failed, overlong, orOld, withQueryFragment, starMatch, isSubpathKey, patternMatch, Target, target, directoryError, Request, outcomeOf, invalidTarget, targetPath, stringTarget, orDot, pathNotExported, PACKAGE-EXPORTS-RESOLVE}
 use Rattle.definition.specs.Called.{joined}
 use Rattle.definition.specs.ExportsLaws.{Strings, Kept, Keeps, exports-kept}
 use Rattle.definition.specs.StringBound.{Small}
@@ -270,29 +271,6 @@ dot-short n s h = if-short (suc n) (startsWith (text ".") s) s (text "." ++ s) (
 -- Directories -----------------------------------------------------------------------------------------------------------------------
 
 -- the directories above a path are no longer than it
-beforeLast-short : (c : ℕ) (s : List ℕ) → length (beforeLast c s) ≤ length s
-unfolding beforeLast
-beforeLast-short c [] = omega arith
-beforeLast-short c (b ∷ s) = go (contains c s) (eqb b c) (beforeLast-short c s)
-  where
-    go : (u v : Bool) → length (beforeLast c s) ≤ length s → length (if u then b ∷ beforeLast c s else if v then [] else b ∷ s) ≤ suc (length s)
-    go true v h = omega arith
-    go false true h = omega arith
-    go false false h = omega arith
-
-orRoot-short : (n : ℕ) (s : List ℕ) → length s ≤ n → 1 ≤ n → length (orRoot s) ≤ n
-unfolding orRoot
-orRoot-short n [] h k = k
-orRoot-short n (b ∷ s) h k = h
-
-pub parent-short : (n : ℕ) (p : List ℕ) → length p ≤ n → 1 ≤ n → length (parent p) ≤ n
-unfolding parent
-parent-short n p h k = go (contains slash p)
-  where
-    go : (u : Bool) → length (if u then orRoot (beforeLast slash p) else []) ≤ n
-    go true = orRoot-short n (beforeLast slash p) (omega (arith, beforeLast-short slash p)) k
-    go false = omega arith
-
 abbrev pub AllAtMost : ℕ → List (List ℕ) → Type 0
 AllAtMost n [] = Unit {0}
 AllAtMost n (p ∷ ps) = (length p ≤ n) × AllAtMost n ps
@@ -383,10 +361,7 @@ components-weight s = by (startsWith (text "/") s)
     by false = omega (arith, leading-weight (split slash s), split-sizes s)
 
 push-short : (p c : List ℕ) → length (push p c) ≤ length p + suc (length c)
-unfolding push
-push-short p c =
-    if-short (length p + suc (length c)) (equal p [] || endsWith (text "/") p) (p ++ c) (p ++ text "/" ++ c)
-    (omega (arith, length-append p c)) (omega (arith, length-append p (text "/"), length-append (p ++ text "/") c))
+push-short p c = omega (arith, push-length p c, room-high p)
 
 relative-short : (cs : List Component) (p : List ℕ) → length (pushRelative cs p) ≤ length p + weight cs
 unfolding pushRelative

@@ -12,6 +12,16 @@ pub mod Manifest
 pub mod Walk
 pub mod Called
 pub mod Reordered
+-- Examples, by computation: a wrong definition is met here first
+pub mod AnswersMarked
+pub mod JsonExamples
+pub mod AnswersLimits
+pub mod AnswersLookup
+pub mod ReorderedExample
+pub mod AnswersPrinted
+pub mod DemandThreeExample
+-- What is proved of them
+pub mod Theorems
 -- Laws
 pub mod TextLaws
 pub mod TextSteps
@@ -20,6 +30,7 @@ pub mod SettingsLaws
 pub mod PathLaws
 pub mod PathSteps
 pub mod ListingSteps
+pub mod ListingNames
 pub mod ListingOrder
 pub mod WalkPathLaws
 pub mod AskLaws
@@ -44,7 +55,6 @@ pub mod ExportsLaws
 pub mod InsidePackage
 pub mod StringBound
 pub mod FitLaws
-pub mod SkipSteps
 pub mod AgreeLaws
 pub mod ViewLaws
 pub mod ManifestViewLaws
@@ -52,14 +62,15 @@ pub mod BoundLaws
 pub mod LengthBound
 pub mod DepthLaws
 pub mod FoundFile
-pub mod WholeCall
-pub mod CallAgain
+pub mod CallEnds
+pub mod CallTwice
 pub mod WalkBounds
 pub mod DemandThree
 -- Examples, by computation
 pub mod Examples
-pub mod JsonExamples
 pub mod ExportsTests
+pub mod JsonExamples
+pub mod LookupExamples
 pub mod ReorderedExample
 pub mod PrintedExample
 pub mod DemandThreeExample

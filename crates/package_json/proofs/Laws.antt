@@ -2,6 +2,7 @@
 use mathlib.Core.Path.{_≡_, refl, _∙_, ap}
 use mathlib.Core.List.{List}
 use Prim.Native.Nat.{ℕ}
+use native.Mathlib.Omega.{arith}
 use lib.ListN.{drop}
 use Rattle.definition.specs.Json.{Read, got, fault, andThen}
 use Rattle.package_json.specs.Scanned.{faultOf, left, scanned, Reads}
@@ -30,9 +31,36 @@ module _ {A B : Type 0} {m : List ℕ} {x : Read A} {r : Scan} (k : A → List �
       go (got a s) h = let z : s ≡ drop i m = cc in rw z (f a .is)
       go (fault n) h = cc
 
+-- two readers gave something: the first did
+pub record Both {A B : Type 0} (x : Read A) (k : A → List ℕ → Read B) (b : B) (s : List ℕ) : Type 0 where
+  pub value : A
+  pub rest : List ℕ
+  pub first : x ≡ got value rest
+  pub second : k value rest ≡ got b s
+
+pub both : {A B : Type 0} (x : Read A) (k : A → List ℕ → Read B) (b : B) (s : List ℕ) → andThen x k ≡ got b s → Both x k b s
+both (got a r) k b s h = record { value = a; rest = r; first = refl; second = h }
+both (fault n) k b s h = absurd (let z : _≡_ {A = ℕ} 0 1 = cc in omega arith)
+
+-- what a scan found, as the reader's own result
+module _ {A : Type 0} {m : List ℕ} {x : Read A} {r : Scan} (e : Reads m x r) where
+  pub was-end : {i : ℕ} → r ≡ End i → (a : A) × (x ≡ got a (drop i m))
+  was-end {i} q = go x (e .is ∙ ap (scanned m) q)
+    where
+      go : (x : Read A) → left x ≡ got tt (drop i m) → (a : A) × (x ≡ got a (drop i m))
+      go (got a s) h = (a, cc)
+      go (fault n) h = absurd (let z : _≡_ {A = ℕ} 0 1 = cc in omega arith)
+
+  pub was-fault : {f : code.Fault} → r ≡ Fault f → x ≡ fault (faultOf f)
+  was-fault {f} q = go x (e .is ∙ ap (scanned m) q)
+    where
+      go : (x : Read A) → left x ≡ fault (faultOf f) → x ≡ fault (faultOf f)
+      go (got a s) h = cc
+      go (fault n) h = cc
+
+pub left-map : {A B : Type 0} (f : A → B) (x : Read A) → left (andThen x (λ a t. got (f a) t)) ≡ left x
+left-map f (got a s) = refl
+left-map f (fault n) = refl
+
 pub reads-map : {A B : Type 0} {m : List ℕ} {x : Read A} {r : Scan} (f : A → B) → Reads m x r → Reads m (andThen x (λ a t. got (f a) t)) r
-reads-map {A} {B} {m} {x} {r} f e = record { is = go x ∙ e .is }
-  where
-    go : (x : Read A) → left (andThen x (λ a t. got (f a) t)) ≡ left x
-    go (got a s) = refl
-    go (fault n) = refl
+reads-map {A} {B} {m} {x} {r} f e = record { is = left-map f x ∙ e .is }

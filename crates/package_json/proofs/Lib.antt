@@ -2,6 +2,7 @@ pub mod Rules
 pub mod Laws
 pub mod Steps
 pub mod Buffer
+pub mod Strings
 pub mod Names
 pub mod Values
 pub mod Whole

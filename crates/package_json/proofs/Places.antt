@@ -14,7 +14,7 @@ use mathlib.Core.Option.{Option, none as nothing, some}
 use Rattle.definition.specs.Json as json
 use Rattle.definition.specs.Json.{malformed, beyond, twice, Json, scalar, str, arr, obj, Elements, noElement, element, Members, noMember, member, Read, got, fault, andThen, skipSpace, skipDigits, word, digits, sign, exponent, fraction, integer, quoted, startsValue, follow, elements, memberName, colon, members, array, object, valueBy, value}
 use Rattle.package_json.specs.Scanned.{left, scanned, Reads, scalarOf, Next, more, close, neither, afterOf, afterAt}
-use Rattle.package_json.specs.Names.{colonAt, keyOf, isText}
+use Rattle.package_json.specs.Names.{colonAt, keyOf}
 use Rattle.package_json.specs.Stands.{Stands, MembersAt, ElementsAt, MembersFrom, ElementsFrom, First, Past, kindOf, Finds}
 use Rattle.package_json.specs.declared.Cursor.{Cursor}
 use Rattle.package_json.specs.declared.Cursor.the-variants.{At, Done}
@@ -526,25 +526,26 @@ module _ (m : List ℕ) (d : ℕ) (name : List ℕ) (n : ℕ) (ms : Members) whe
   search-done c e g = rw (g .same) (let z : g .others ≡ noMember = rw e at (g .from) in rw z tt)
 
   module _ (c : Cursor) (i v : ℕ) (t : Cursor) (e : c ≡ At i) (g : Searching m d name n c ms)
-      (f : (n : ℕ) (k : List ℕ) (j : Json) (ms : Members) → MembersAt m d n i (member k j ms) → Stands m d v j × MembersFrom m d (n - 1) ms t) where
+      (f : (n : ℕ) (k : List ℕ) (j : Json) (ms : Members) → MembersAt m d n i (member k j ms) → Stands m d v j × MembersFrom m d (n - 1) ms t)
+      (b : Bool) (y : (t s : List ℕ) → quoted (drop i m) ≡ got t s → b ≡ equal t name) where
     here-one : One m d n i (g .others)
     here-one = one (rw e at (g .from))
 
     entry-one : Stands m d v (here-one .val) × MembersFrom m d (n - 1) (here-one .others) t
     entry-one = f n (here-one .name) (here-one .val) (here-one .others) (rw (here-one .is) at (rw e at (g .from)))
 
-    name-one : isText (quoted (drop i m)) name ≡ equal name (here-one .name)
-    name-one = let p = key-parts (here-one .took .names) (drop i m) (here-one .name) (here-one .took .from) (here-one .took .key) in rw (p .quote) (equal-sym (here-one .name) name)
+    name-one : b ≡ equal name (here-one .name)
+    name-one = let p = key-parts (here-one .took .names) (drop i m) (here-one .name) (here-one .took .from) (here-one .took .key) in y (here-one .name) (p .behind) (p .quote) ∙ equal-sym (here-one .name) name
 
     get-one : get name (entries ms) ≡ (if equal name (here-one .name) then some (here-one .val) else get name (entries (here-one .others)))
     unfolding get entries
     get-one = g .same ∙ ap (λ x. get name (entries x)) (here-one .is)
 
-    pub search-yes : isText (quoted (drop i m)) name ≡ true → Finds m d (get name (entries ms)) (FoundAt v)
-    search-yes y = rw (get-one) (rw (sym name-one ∙ y) (entry-one .0))
+    pub search-yes : b ≡ true → Finds m d (get name (entries ms)) (FoundAt v)
+    search-yes h = rw (get-one) (rw (sym name-one ∙ h) (entry-one .0))
 
-    pub search-on : isText (quoted (drop i m)) name ≡ false → Searching m d name (n - 1) t ms
-    search-on y = record { others = here-one .others; from = entry-one .1; same = get-one ∙ rw (sym name-one ∙ y) }
+    pub search-on : b ≡ false → Searching m d name (n - 1) t ms
+    search-on h = record { others = here-one .others; from = entry-one .1; same = get-one ∙ rw (sym name-one ∙ h) }
 
   pub search-over : (c : Cursor) → n ≤ 0 → Searching m d name n c ms → Finds m d (get name (entries ms)) Nothing
   search-over (At i) l g = none (none-left (g .from) (let z : n ≡ 0 = omega arith in z))

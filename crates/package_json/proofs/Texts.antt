@@ -15,7 +15,7 @@ use Rattle.definition.specs.Json as json
 use Rattle.definition.specs.Json.{malformed, beyond, Json, str, Read, got, fault, andThen, skipSpace, isSpace, Place, between, sequence, Step, bad, close, gives, plainByte, sequenceByte, step, goOn, string, quoted, value, atEnd, document, replaceBom, parse}
 use Rattle.package_json.specs.Scanned.{left, scanned, Reads}
 use Rattle.package_json.specs.Stands.{Stands}
-use Rattle.package_json.specs.Texts.{plain}
+use Rattle.package_json.specs.Decoded.{plain}
 use Rattle.package_json.specs.Decoded.{Decodes}
 use Rattle.package_json.specs.declared.Text.{Text}
 use Rattle.package_json.proofs.Names.{decodes-end, decodes-fault}

@@ -9,12 +9,13 @@ use lib.ListN.{length, drop, getD, set, length-set}
 use lib.Seq.{getD-set-same, drop-set-lt}
 use lib.Dec.{eqb}
 use borrow.Author.Tests.{eq-eqb, ne-eqb}
-use Rattle.definition.specs.Text.{if_then_else_, isOneOf}
-use Rattle.definition.specs.Json.{Json, str, arr, obj, Elements, noElement, element, Members, noMember, member, Read, got, fault, malformed, beyond, twice, andThen, skipSpace, quoted, follow, elements, memberName, colon, members, array, object, valueBy, value}
-use Rattle.package_json.specs.Scanned.{left, scanned, Reads, scalarOf, Next, more, close, neither, afterOf, afterAt}
-use Rattle.package_json.specs.Names.{Named, nobody, also, colonAt, keyOf}
+use Rattle.definition.specs.Text.{if_then_else_}
+use Rattle.definition.specs.Json.{Json, str, arr, obj, Elements, noElement, element, Members, noMember, member, Read, got, fault, malformed, beyond, andThen, skipSpace, quoted, follow, elements, memberName, colon, members, array, object, valueBy, value}
+use Rattle.package_json.specs.Scanned.{faultOf, Reads, scalarOf, Next, more, close, neither, afterOf, afterAt}
+use Rattle.package_json.specs.Names.{markOf, Named, nobody, also, Key, KeyRead, colonAt, keyOf}
 use Rattle.package_json.specs.declared.Fault as code
 use Rattle.package_json.specs.declared.Fault.the-variants.{Malformed, Beyond}
+use Rattle.package_json.specs.declared.Name.{Name}
 use Rattle.package_json.specs.declared.Scan.{Scan}
 use Rattle.package_json.specs.declared.Scan.the-variants.{End, Fault}
 use Rattle.package_json.specs.declared.Then.{Then}
@@ -122,42 +123,12 @@ module _ (v : List ℕ → Read Json) where
           in-colon (fault f) = refl
           in-colon (got u t) = refl
 
--- the name that a key was read with
-pub record Key (m : List ℕ) (ns : List (List ℕ)) (i from : ℕ) : Type 0 where
-  pub name : List ℕ
-  pub read : keyOf ns (drop i m) ≡ got name (drop from m)
-  pub behind : List ℕ
-  pub quote : quoted (drop i m) ≡ got name behind
-
-key-of : (ns : List (List ℕ)) (s t : List ℕ) → left (keyOf ns s) ≡ got tt t → (k : List ℕ) × (keyOf ns s ≡ got k t) × ((r : List ℕ) × (quoted s ≡ got k r))
-unfolding keyOf memberName
-key-of ns s t h = go (quoted s) h
-  where
-    after-name : (k r : List ℕ) (p : Bool) → left (andThen (if p then fault twice else got k r) (λ k r. andThen (colonAt (skipSpace r)) (λ u t. got k t))) ≡ got tt t
-        → andThen (if p then fault twice else got k r) (λ k r. andThen (colonAt (skipSpace r)) (λ u t. got k t)) ≡ got k t
-    after-name k r true h = cc
-    after-name k r false h = at-colon (colonAt (skipSpace r)) h
-      where
-        at-colon : (y : Read (Unit {0})) → left (andThen y (λ u t. got k t)) ≡ got tt t → andThen y (λ u t. got k t) ≡ got k t
-        at-colon (got u z) h = cc
-        at-colon (fault f) h = cc
-
-    go : (x : Read (List ℕ)) → left (andThen (andThen x (λ k r. if isOneOf ns k then fault twice else got k r)) (λ k r. andThen (colonAt (skipSpace r)) (λ u t. got k t))) ≡ got tt t
-        → (k : List ℕ) × (andThen (andThen x (λ k r. if isOneOf ns k then fault twice else got k r)) (λ k r. andThen (colonAt (skipSpace r)) (λ u t. got k t)) ≡ got k t) × ((r : List ℕ) × (x ≡ got k r))
-    go (got k r) h = (k, after-name k r (isOneOf ns k) h, (r, refl))
-    go (fault f) h = none (let z : _≡_ {A = ℕ} 0 1 = cc in omega arith)
-
-pub key-end : (m : List ℕ) (ns : List (List ℕ)) (i : ℕ) {from : ℕ} {r : Scan} → Reads m (keyOf ns (drop i m)) r → r ≡ End from → Key m ns i from
-key-end m ns i {from} h e =
-    let k = key-of ns (drop i m) (drop from m) (h .is ∙ ap (scanned m) e) in
-    record { name = k .0; read = k .1; behind = k .2 .0; quote = k .2 .1 }
-
 module _ (m : List ℕ) (v : List ℕ → Read Json) where
   module _ (n i : ℕ) (ns : List (List ℕ)) (z : n ≡ 0 → ⊥) where
-    pub key-fault : {r : Scan} {f : code.Fault} → Reads m (keyOf ns (drop i m)) r → r ≡ Fault f → Reads m (members v ns n (drop i m)) (Fault f)
-    key-fault h e = rw (one-member v ns n (drop i m) z) (then-fault (with-value v ns (n - 1)) h e)
+    pub key-fault : {f : code.Fault} → keyOf ns (drop i m) ≡ fault (faultOf f) → Reads m (members v ns n (drop i m)) (Fault f)
+    key-fault e = record { is = rw (one-member v ns n (drop i m) z) (rw e) }
 
-    module _ {from : ℕ} (k : Key m ns i from) {r : Scan} (h : Reads m (v (drop from m)) r) where
+    module _ {from h₁ : ℕ} (k : Key m (keyOf ns (drop i m)) i from h₁) {r : Scan} (h : Reads m (v (drop from m)) r) where
       pub member-fault : {f : code.Fault} → r ≡ Fault f → Reads m (members v ns n (drop i m)) (Fault f)
       member-fault e = rw (one-member v ns n (drop i m) z, k .read) (then-fault (λ j t. andThen (rest-members v (k .name ∷ ns) (n - 1) t) (λ ms u. got (member (k .name) j ms) u)) h e)
 
@@ -179,12 +150,15 @@ module _ (m : List ℕ) (v : List ℕ → Read Json) where
         rw (h ∙ here m i l) (rw (ne-eqb (getD m i 0) 125 e) (rw (here m i l) at (reads-map obj g)))
 
 -- one name more, put in front of those from `n` on
-pub named-more : (m ps : List ℕ) (n i : ℕ) {ns : List (List ℕ)} {k s : List ℕ} → (n ≡ 0 → ⊥) → n ≤ length ps → quoted (drop i m) ≡ got k s → Named m (drop n ps) ns → Named m (drop (n - 1) (set ps (n - 1) i)) (k ∷ ns)
-named-more m ps n i {ns} {k} {s} z l q h =
+in-front : (ps : List ℕ) (n i : ℕ) → (n ≡ 0 → ⊥) → n ≤ length ps → drop (n - 1) (set ps (n - 1) i) ≡ i ∷ drop n ps
+in-front ps n i z l =
     let lt : n - 1 < length ps = omega arith in
     let lt′ : n - 1 < length (set ps (n - 1) i) = simp length-set lt in
     let e : n - 1 + 1 ≡ n = omega arith in
-    rw (here (set ps (n - 1) i) (n - 1) lt′, getD-set-same ps (n - 1) i 0 lt, e, drop-set-lt n ps (n - 1) i (omega arith)) (also s q h)
+    rw (here (set ps (n - 1) i) (n - 1) lt′, getD-set-same ps (n - 1) i 0 lt, e, drop-set-lt n ps (n - 1) i (omega arith))
+
+pub named-more : (m ps hs : List ℕ) (n i h : ℕ) {ns : List (List ℕ)} {k s : List ℕ} → (n ≡ 0 → ⊥) → n ≤ length ps → n ≤ length hs → quoted (drop i m) ≡ got k s → h ≡ markOf 0 k → Named m (drop n ps) (drop n hs) ns → Named m (drop (n - 1) (set ps (n - 1) i)) (drop (n - 1) (set hs (n - 1) h)) (k ∷ ns)
+named-more m ps hs n i h {ns} {k} {s} z l o q e r = rw (in-front ps n i z l, in-front hs n h z o) (also s q e r)
 
 -- values by their first byte
 value-open : (d : ℕ) (s : List ℕ) → (d ≡ 0 → ⊥) → value d s ≡ valueBy (λ r. array (λ t. value (d - 1) t) (skipSpace r)) (λ r. object (λ t. value (d - 1) t) (skipSpace r)) s
@@ -256,24 +230,25 @@ module _ {v : List ℕ → Read Json} {m s : List ℕ} {i n : ℕ} (g : Elems v 
       elems-more c = record { rest = λ k. g .rest (element-end m v n i (λ z. omega arith) h q (follow-more m t 93 (skipSpace (drop e m)) noElement (λ u. elements v (n - 1) u) a c k)) }
 
 -- the loop over an object: the names read stand at the places from n on
-pub record Membs (v : List ℕ → Read Json) (m s ps : List ℕ) (i n : ℕ) : Type 0 where
+pub record Membs (v : List ℕ → Read Json) (m s ps hs : List ℕ) (i n : ℕ) : Type 0 where
   pub names : List (List ℕ)
-  pub named : Named m (drop n ps) names
+  pub named : Named m (drop n ps) (drop n hs) names
   pub places : length ps ≡ 128
+  pub marks : length hs ≡ 128
   pub within : n ≤ 128
   pub rest : {r : Scan} → Reads m (members v names n (drop i m)) r → Reads m (object v s) r
 
-module _ {v : List ℕ → Read Json} {m s ps : List ℕ} {i n : ℕ} (g : Membs v m s ps i n) where
+module _ {v : List ℕ → Read Json} {m s ps hs : List ℕ} {i n : ℕ} (g : Membs v m s ps hs i n) where
   pub membs-over : {r : Scan} → n ≤ 0 → ((ns : List (List ℕ)) → Reads m (members v ns 0 (drop i m)) r) → Reads m (object v s) r
   membs-over l h = let z : n ≡ 0 = omega arith in g .rest (rw z (h (g .names)))
 
-  module _ (l : 0 < n) {q : Scan} (k : (ns : List (List ℕ)) → Named m (drop n ps) ns → Reads m (keyOf ns (drop i m)) q) where
-    pub membs-key : {f : code.Fault} → q ≡ Fault f → Reads m (object v s) (Fault f)
-    membs-key e = g .rest (key-fault m v n i (g .names) (λ z. omega arith) (k (g .names) (g .named)) e)
+  module _ (l : 0 < n) {q : Name} (k : (ns : List (List ℕ)) → Named m (drop n ps) (drop n hs) ns → KeyRead m ns i q) where
+    pub membs-key : {f : code.Fault} → q ≡ Name.Fault f → Reads m (object v s) (Fault f)
+    membs-key e = g .rest (key-fault m v n i (g .names) (λ z. omega arith) (rw e at (k (g .names) (g .named))))
 
-    module _ {from : ℕ} (kq : q ≡ End from) {r : Scan} (h : Reads m (v (drop from m)) r) where
-      the-key : Key m (g .names) i from
-      the-key = key-end m (g .names) i (k (g .names) (g .named)) kq
+    module _ {from h₁ : ℕ} (kq : q ≡ Name.New from h₁) {r : Scan} (h : Reads m (v (drop from m)) r) where
+      the-key : Key m (keyOf (g .names) (drop i m)) i from h₁
+      the-key = rw kq at (k (g .names) (g .named))
 
       pub membs-fault : {f : code.Fault} → r ≡ Fault f → Reads m (object v s) (Fault f)
       membs-fault e = g .rest (member-fault m v n i (g .names) (λ z. omega arith) the-key h e)
@@ -285,20 +260,22 @@ module _ {v : List ℕ → Read Json} {m s ps : List ℕ} {i n : ℕ} (g : Membs
         pub membs-close : {j : ℕ} → t ≡ Close j → Reads m (object v s) (End j)
         membs-close c = g .rest (member-end m v n i (g .names) (λ z. omega arith) the-key h re (follow-close m t 125 (skipSpace (drop e m)) noMember (λ u. members v (the-key .name ∷ g .names) (n - 1) u) a c))
 
-        pub membs-more : {j : ℕ} → t ≡ More j → Membs v m s (set ps (n - 1) i) j (n - 1)
-        membs-more c = let p = g .places in let w = g .within in record {
+        pub membs-more : {j : ℕ} → t ≡ More j → Membs v m s (set ps (n - 1) i) (set hs (n - 1) h₁) j (n - 1)
+        membs-more c = let p = g .places in let o = g .marks in let w = g .within in record {
           names = the-key .name ∷ g .names;
-          named = named-more m ps n i (λ z. omega arith) (omega arith) (the-key .quote) (g .named);
+          named = named-more m ps hs n i h₁ (λ z. omega arith) (omega arith) (omega arith) (the-key .quote) (the-key .mark) (g .named);
           places = simp length-set (g .places);
+          marks = simp length-set (g .marks);
           within = omega arith;
           rest = λ o. g .rest (member-end m v n i (g .names) (λ z. omega arith) the-key h re (follow-more m t 125 (skipSpace (drop e m)) noMember (λ u. members v (the-key .name ∷ g .names) (n - 1) u) a c o));
         }
 
-pub membs-begin : (v : List ℕ → Read Json) (m s ps : List ℕ) (i : ℕ) → s ≡ drop i m → i < length m → (getD m i 0 ≡ 125 → ⊥) → length ps ≡ 128 → Membs v m s ps i 128
-membs-begin v m s ps i h l e c = record {
+pub membs-begin : (v : List ℕ → Read Json) (m s ps hs : List ℕ) (i : ℕ) → s ≡ drop i m → i < length m → (getD m i 0 ≡ 125 → ⊥) → length ps ≡ 128 → length hs ≡ 128 → Membs v m s ps hs i 128
+membs-begin v m s ps hs i h l e c d = record {
   names = [];
-  named = rw (past ps 128 (omega arith)) nobody;
+  named = rw (past ps 128 (omega arith), past hs 128 (omega arith)) nobody;
   places = c;
+  marks = d;
   within = omega arith;
   rest = λ g. object-some m v s i h l e g;
 }

@@ -1,14 +1,28 @@
 -- What is decoded into a buffer.
 use mathlib.Core.Path.{_≡_}
-use Prim.Native.Nat.{ℕ, _+_, _≤_, _<_}
-use mathlib.Core.List.{List, _++_}
+use Prim.Native.Nat.{ℕ, _+_, _-_, _≤_, _<_}
+use mathlib.Core.List.{List, [], _∷_, _++_}
+use mathlib.Core.Bool.{_||_}
+use lib.Dec.{eqb}
+use Rattle.definition.specs.Text.{if_then_else_}
 use lib.ListN.{length, drop, take}
-use Rattle.definition.specs.Json.{Read, got, fault}
-use Rattle.package_json.specs.Scanned.{faultOf}
+use Rattle.definition.specs.Json.{Read, got, fault, string, between}
+use Rattle.package_json.specs.Scanned.{faultOf, left}
 use Rattle.package_json.specs.declared.Put.{Put}
 use Rattle.package_json.specs.declared.Put.the-variants.{To, Over}
 use Rattle.package_json.specs.declared.Text.{Text}
 use Rattle.package_json.specs.declared.Text.the-variants.{End, Fault}
+
+-- the bytes from `at` to i stand for themselves in a string
+pub record Begun (m : List ℕ) (at i : ℕ) : Type 0 where
+  pub from : at ≤ i
+  pub room : i - at ≤ 1024
+  pub rest : left (string 1024 between (drop at m)) ≡ left (string (1024 - (i - at)) between (drop i m))
+
+-- the bytes before the first quote or backslash
+unfoldable pub plain : List ℕ → List ℕ
+plain [] = []
+plain (b ∷ s) = let rest = plain s in if eqb b 34 || eqb b 92 then [] else b ∷ rest
 
 -- the bytes `out` stand behind the first n of the buffer, or passed the limit
 pub record Stands (w w′ : List ℕ) (n : ℕ) (out : List ℕ) (k : ℕ) : Type 0 where

@@ -8,11 +8,6 @@ use lib.Dec.{eqb}
 use Rattle.definition.specs.Text.{if_then_else_}
 use Rattle.package_json.specs.declared.TextAt.{TextAt}
 
--- the bytes before the first quote or backslash
-unfoldable pub plain : List ℕ → List ℕ
-plain [] = []
-plain (b ∷ s) = let rest = plain s in if eqb b 34 || eqb b 92 then [] else b ∷ rest
-
 abbrev pub textOf : List ℕ → List ℕ → TextAt → List ℕ
 textOf m w t = take (t .len) (drop (t .start) (if t .work then w else m))
 

@@ -2,15 +2,15 @@ ghost use mathlib.Core.Path.{_≡_};
 ghost use mathlib.Core.Bool.{Bool, true, false};
 ghost use Prim.Native.Nat.{ℕ, suc, _+_, _-_, _≤_, _<_};
 ghost use lib.ListN.{length, drop, take};
-ghost use Rattle.definition.specs.Text.{isDigit, hexDigit, utf8, trail as trailOf, equal as equalOf};
+ghost use Rattle.definition.specs.Text.{isOneOf, isDigit, hexDigit, utf8, trail as trailOf, equal as equalOf};
 ghost use Rattle.definition.specs.Json.{isSpace, skipSpace, skipDigits, digits as digitsOf, startsValue, sign as signOf, exponent as exponentOf, fraction as fractionOf, integer as integerOf, word as wordOf, plainByte, escapeByte, unit as unitOf, pair as pairOf, hexByte, secondHexByte, step as stepBy, sequence, between, string as stringOf, quoted as quotedOf, memberName, Read, Json, value as valueOf, array as arrayOf, object as objectOf, elements as elementsOf, members as membersOf, got, str, replaceBom, obj, Members, member, Elements, element as elementOf};
 ghost use Rattle.package_json.specs.Stands.{Root, Stands, MembersAt, MembersFrom, ElementsAt, ElementsFrom, First, Past, kindOf, Finds};
-ghost use Rattle.package_json.specs.Texts.{plain, textOf, TextRead};
+ghost use Rattle.package_json.specs.Texts.{textOf, TextRead};
 ghost use Rattle.definition.specs.Exports.{get as getOf, entries};
 ghost use Rattle.package_json.specs.Automaton.{placeOf, stepOf, outOf, Steps, Good, High, Below, leadByte, digitOf, Fair};
-ghost use Rattle.package_json.specs.Decoded.{Puts, Decodes};
-ghost use mathlib.Core.List.{List, [], _∷_};
-ghost use Rattle.package_json.specs.Names.{isText, anyName, Named, colonAt, keyOf};
+ghost use Rattle.package_json.specs.Decoded.{Begun, Puts, Decodes, plain};
+ghost use mathlib.Core.List.{List, [], _∷_, _++_};
+ghost use Rattle.package_json.specs.Names.{Matches, markOf, Named, freshOf, NameRead, KeyRead, colonAt, keyOf};
 ghost use Rattle.package_json.specs.Scanned.{Reads, scalarOf, afterOf, afterAt};
 
 // What is wrong with a manifest, first: no JSON text can go on (7), a limit is passed (40), a name stands twice in one object (41).
@@ -135,7 +135,7 @@ fn fraction(m: &[u8], at: usize) -> Scan
         if m[at] == b'.' {
             let read = digits(m, at + 1);
             return match read {
-                Scan::Fault(n) => Scan::Fault(n),
+                Scan::Fault(f) => Scan::Fault(f),
                 Scan::End(end) => exponent(m, end),
             };
         }
@@ -568,14 +568,101 @@ fn put_out(w: &mut [u8], n: usize, o: Out) -> Put
     }
 }
 
-// Where a string ends and how many decoded bytes it has, or the number of its fault.
-pub enum Text {
+// How many decoded bytes an output has.
+fn size(o: Out) -> usize
+    ensures { λ r. ⌜ r ≡ length (outOf o) ⌝ }
+{
+    match o {
+        Out::None => 0,
+        Out::Byte(_) => 1,
+        Out::Point(c) => {
+            if c < 128 {
+                return 1;
+            }
+            if c < 2048 {
+                return 2;
+            }
+            if c < 65536 {
+                return 3;
+            }
+            4
+        }
+    }
+}
+
+// The end of the ASCII bytes from `at` on that stand for themselves, within the limit of a string: most strings have no others.
+fn ascii(m: &[u8], at: usize) -> usize
+    ensures { λ r. ⌜ Begun (now (m .entry)) at r ⌝ }
+{
+    let mut i = at;
+    while i < m.len() {
+        let b = m[i];
+        if b < 32 {
+            return i;
+        }
+        if b >= 128 {
+            return i;
+        }
+        if b == 34 {
+            return i;
+        }
+        if b == 92 {
+            return i;
+        }
+        if i - at >= ROOM {
+            return i;
+        }
+        i += 1;
+    }
+    i
+}
+
+// A string behind its opening quote: where it ends.
+fn string(m: &[u8], at: usize) -> Scan
+    ensures { λ r. ⌜ Reads (now (m .entry)) (stringOf 1024 between (drop at (now (m .entry)))) r ⌝ }
+{
+    let mut i = ascii(m, at);
+    let mut n = i - at;
+    let mut p = Place::Between;
+    while i < m.len() {
+        let s = advance(p, m[i]);
+        match s {
+            Step::Bad => return Scan::Fault(Fault::Malformed),
+            Step::Close => return Scan::End(i + 1),
+            Step::Gives(o, q) => {
+                let k = size(o);
+                if k > ROOM - n {
+                    return Scan::Fault(Fault::Beyond);
+                }
+                n += k;
+                p = q;
+                i += 1;
+            }
+        }
+    }
+    Scan::Fault(Fault::Malformed)
+}
+
+// A string from its opening quote.
+fn quoted(m: &[u8], at: usize) -> Scan
+    ensures { λ r. ⌜ Reads (now (m .entry)) (quotedOf (drop at (now (m .entry)))) r ⌝ }
+{
+    if at < m.len() {
+        if m[at] == b'"' {
+            return string(m, at + 1);
+        }
+    }
+    Scan::Fault(Fault::Malformed)
+}
+
+// Where a string ends and how many decoded bytes it has, or its fault.
+enum Text {
     End(usize, usize),
     Fault(Fault),
 }
 
 // A string behind its opening quote, decoded into w.
-fn string(m: &[u8], at: usize, w: &mut [u8]) -> Text
+fn decode(m: &[u8], at: usize, w: &mut [u8]) -> Text
     requires { ⌜ 1024 ≤ length (now w) ⌝ }
     ensures { λ r. ⌜ Decodes (now (m .entry)) (now (w .entry)) (now (w .exit)) (stringOf 1024 between (drop at (now (m .entry)))) r ⌝ }
 {
@@ -603,38 +690,182 @@ fn string(m: &[u8], at: usize, w: &mut [u8]) -> Text
     Text::Fault(Fault::Malformed)
 }
 
-// A string from its opening quote, decoded into w.
-pub fn quoted(m: &[u8], at: usize, w: &mut [u8]) -> Text
-    requires { ⌜ 1024 ≤ length (now w) ⌝ }
-    ensures { λ r. ⌜ Decodes (now (m .entry)) (now (w .entry)) (now (w .exit)) (quotedOf (drop at (now (m .entry)))) r ⌝ }
+// Where the text of a string that has no escape ends: the first quote or backslash.
+fn plain_end(m: &[u8], from: usize) -> usize
+    ensures { λ r. ⌜ r ≡ from + length (plain (drop from (now (m .entry)))) ⌝ }
 {
-    if at < m.len() {
-        if m[at] == b'"' {
-            return string(m, at + 1, w);
+    let mut i = from;
+    while i < m.len() {
+        let b = m[i];
+        if b == b'"' {
+            return i;
         }
+        if b == b'\\' {
+            return i;
+        }
+        i += 1;
     }
-    Text::Fault(Fault::Malformed)
+    i
 }
 
-// Whether the string at a place is, decoded, the text `key`.
-pub fn name_is(m: &[u8], at: usize, key: &[u8]) -> bool
-    ensures { λ r. ⌜ r ≡ isText (quotedOf (drop at (now (m .entry)))) (now (key .entry)) ⌝ }
+// How far a text agrees: to a place, or no more.
+enum Match {
+    To(usize),
+    No,
+}
+
+// Whether a byte of the text `key` is b.
+fn match_byte(key: &[u8], k: usize, b: u8) -> Match
+    ensures { λ r. ⌜ Matches (now (key .entry)) k (b ∷ []) r ⌝ }
 {
-    let mut w = [0u8; 1024];
-    let read = quoted(m, at, &mut w);
-    match read {
-        Text::Fault(_) => false,
-        Text::End(_, n) => text::equal(&w[..n], key),
+    if k < key.len() {
+        if key[k] == b {
+            return Match::To(k + 1);
+        }
     }
+    Match::No
+}
+
+// The same for the last six bits of a code point.
+fn match_trail(key: &[u8], k: Match, c: u32) -> Match
+    ensures { λ r. ⌜ ((from : ℕ) (out : List ℕ) → Matches (now (key .entry)) from out k → Matches (now (key .entry)) from (out ++ (trailOf c ∷ [])) r) ⌝ }
+{
+    match k {
+        Match::No => Match::No,
+        Match::To(i) => match_byte(key, i, trail(c)),
+    }
+}
+
+// The same for the UTF-8 bytes of a code point.
+fn match_point(key: &[u8], k: usize, c: u32) -> Match
+    requires { ⌜ c < 1114112 ⌝ }
+    ensures { λ r. ⌜ Matches (now (key .entry)) k (utf8 c) r ⌝ }
+{
+    if c < 128 {
+        return match_byte(key, k, c as u8);
+    }
+    if c < 2048 {
+        let one = match_byte(key, k, (192 + c / 64) as u8);
+        return match_trail(key, one, c);
+    }
+    if c < 65536 {
+        let one = match_byte(key, k, (224 + c / 4096) as u8);
+        let two = match_trail(key, one, c / 64);
+        return match_trail(key, two, c);
+    }
+    let one = match_byte(key, k, (240 + c / 262144) as u8);
+    let two = match_trail(key, one, c / 4096);
+    let three = match_trail(key, two, c / 64);
+    match_trail(key, three, c)
+}
+
+fn match_out(key: &[u8], k: usize, o: Out) -> Match
+    requires { ⌜ Fair o ⌝ }
+    ensures { λ r. ⌜ Matches (now (key .entry)) k (outOf o) r ⌝ }
+{
+    match o {
+        Out::None => Match::To(k),
+        Out::Byte(b) => match_byte(key, k, b),
+        Out::Point(c) => match_point(key, k, c),
+    }
+}
+
+// Whether the rest of a string, from between two of its characters on, is the text `key` from a place on. The string is known to be good.
+fn rest_is(m: &[u8], at: usize, key: &[u8], from: usize) -> bool
+    ensures { λ r. ⌜ ((room : ℕ) (t s : List ℕ) → stringOf room between (drop at (now (m .entry))) ≡ got t s → r ≡ equalOf t (drop from (now (key .entry)))) ⌝ }
+{
+    let mut p = Place::Between;
+    let mut i = at;
+    let mut k = from;
+    while i < m.len() {
+        let s = advance(p, m[i]);
+        match s {
+            Step::Bad => return false,
+            Step::Close => return k >= key.len(),
+            Step::Gives(o, q) => {
+                let t = match_out(key, k, o);
+                match t {
+                    Match::No => return false,
+                    Match::To(n) => {
+                        k = n;
+                        p = q;
+                        i += 1;
+                    }
+                }
+            }
+        }
+    }
+    false
+}
+
+// Whether the string at a place, known to be good, is the text `key`: byte by byte up to its first escape.
+fn same_text(m: &[u8], at: usize, key: &[u8]) -> bool
+    ensures { λ r. ⌜ ((t s : List ℕ) → quotedOf (drop at (now (m .entry))) ≡ got t s → r ≡ equalOf t (now (key .entry))) ⌝ }
+{
+    if at >= m.len() {
+        return false;
+    }
+    let mut i = at + 1;
+    let mut k: usize = 0;
+    while i < m.len() {
+        let b = m[i];
+        if b == b'"' {
+            return k >= key.len();
+        }
+        if b == b'\\' {
+            return rest_is(m, i, key, k);
+        }
+        if k >= key.len() {
+            return false;
+        }
+        if key[k] != b {
+            return false;
+        }
+        i += 1;
+        k += 1;
+    }
+    false
+}
+
+fn wide(b: u8) -> u64
+    ensures { λ r. ⌜ r ≡ b ⌝ }
+{
+    b as u64
+}
+
+// A number that equal texts share: names with different ones are not compared.
+fn mark_of(t: &[u8]) -> u64
+    ensures { λ r. ⌜ r ≡ markOf 0 (now (t .entry)) ⌝ }
+{
+    let mut h: u64 = 0;
+    let mut i = 0;
+    while i < t.len() {
+        h = h % 0x100000000000000 * 131 + wide(t[i]);
+        i += 1;
+    }
+    h
+}
+
+// Whether the name at a place is the text `key`, by their marks first.
+fn is_name(m: &[u8], at: usize, theirs: u64, key: &[u8], mark: u64) -> bool
+    ensures { λ r. ⌜ ((t s : List ℕ) → quotedOf (drop at (now (m .entry))) ≡ got t s → theirs ≡ markOf 0 t → mark ≡ markOf 0 (now (key .entry)) → r ≡ equalOf t (now (key .entry))) ⌝ }
+{
+    if theirs != mark {
+        return false;
+    }
+    same_text(m, at, key)
 }
 
 // Whether one of the names at the places from `from` on is the text `key`.
-fn repeated(m: &[u8], key: &[u8], names: &[usize], from: usize) -> bool
-    ensures { λ r. ⌜ r ≡ anyName (now (m .entry)) (drop from (now (names .entry))) (now (key .entry)) ⌝ }
+fn repeated(m: &[u8], key: &[u8], mark: u64, names: &[usize], marks: &[u64], from: usize) -> bool
+    ensures { λ r. ⌜ ((ns : List (List ℕ)) → mark ≡ markOf 0 (now (key .entry)) → Named (now (m .entry)) (drop from (now (names .entry))) (drop from (now (marks .entry))) ns → r ≡ isOneOf ns (now (key .entry))) ⌝ }
 {
     let mut i = from;
     while i < names.len() {
-        let same = name_is(m, names[i], key);
+        if i >= marks.len() {
+            return false;
+        }
+        let same = is_name(m, names[i], marks[i], key, mark);
         if same {
             return true;
         }
@@ -643,20 +874,61 @@ fn repeated(m: &[u8], key: &[u8], names: &[usize], from: usize) -> bool
     false
 }
 
-// A member's name, which is none of the names at the places from `from` on.
-fn member_name(m: &[u8], at: usize, names: &[usize], from: usize) -> Scan
-    ensures { λ r. ⌜ ((ns : List (List ℕ)) → Named (now (m .entry)) (drop from (now (names .entry))) ns → Reads (now (m .entry)) (memberName ns (drop at (now (m .entry)))) r) ⌝ }
+// Where a member's name ends, or where its value begins, and the name's mark; or the fault.
+enum Name {
+    New(usize, u64),
+    Fault(Fault),
+}
+
+// A name that ends at a place, if it is none of the names before it.
+fn fresh(m: &[u8], key: &[u8], end: usize, names: &[usize], marks: &[u64], from: usize) -> Name
+    ensures { λ r. ⌜ ((ns : List (List ℕ)) → Named (now (m .entry)) (drop from (now (names .entry))) (drop from (now (marks .entry))) ns → r ≡ freshOf (isOneOf ns (now (key .entry))) end (markOf 0 (now (key .entry)))) ⌝ }
+{
+    let mark = mark_of(key);
+    let again = repeated(m, key, mark, names, marks, from);
+    if again {
+        return Name::Fault(Fault::Twice);
+    }
+    Name::New(end, mark)
+}
+
+// A name that has an escape.
+fn escaped_name(
+    m: &[u8],
+    at: usize,
+    end: usize,
+    names: &[usize],
+    marks: &[u64],
+    from: usize,
+) -> Name
+    ensures { λ r. ⌜ ((ns : List (List ℕ)) (k : List ℕ) → Named (now (m .entry)) (drop from (now (names .entry))) (drop from (now (marks .entry))) ns → stringOf 1024 between (drop at (now (m .entry))) ≡ got k (drop end (now (m .entry))) → r ≡ freshOf (isOneOf ns k) end (markOf 0 k)) ⌝ }
 {
     let mut w = [0u8; 1024];
-    let read = quoted(m, at, &mut w);
+    let read = decode(m, at, &mut w);
     match read {
-        Text::Fault(n) => Scan::Fault(n),
-        Text::End(end, n) => {
-            let again = repeated(m, &w[..n], names, from);
-            if again {
-                return Scan::Fault(Fault::Twice);
+        Text::Fault(f) => Name::Fault(f),
+        Text::End(_, n) => fresh(m, &w[..n], end, names, marks, from),
+    }
+}
+
+// A member's name, which is none of the names at the places from `from` on.
+fn member_name(m: &[u8], at: usize, names: &[usize], marks: &[u64], from: usize) -> Name
+    ensures { λ r. ⌜ ((ns : List (List ℕ)) → Named (now (m .entry)) (drop from (now (names .entry))) (drop from (now (marks .entry))) ns → NameRead (now (m .entry)) ns at r) ⌝ }
+{
+    let read = quoted(m, at);
+    match read {
+        Scan::Fault(f) => Name::Fault(f),
+        Scan::End(end) => {
+            if at >= m.len() {
+                return Name::Fault(Fault::Malformed);
             }
-            Scan::End(end)
+            let stop = plain_end(m, at + 1);
+            if stop < m.len() {
+                if m[stop] == b'"' {
+                    return fresh(m, &m[at + 1..stop], end, names, marks, from);
+                }
+            }
+            escaped_name(m, at + 1, end, names, marks, from)
         }
     }
 }
@@ -675,13 +947,19 @@ fn colon(m: &[u8], at: usize) -> Scan
 }
 
 // A member up to its value.
-fn key(m: &[u8], at: usize, names: &[usize], from: usize) -> Scan
-    ensures { λ r. ⌜ ((ns : List (List ℕ)) → Named (now (m .entry)) (drop from (now (names .entry))) ns → Reads (now (m .entry)) (keyOf ns (drop at (now (m .entry)))) r) ⌝ }
+fn key(m: &[u8], at: usize, names: &[usize], marks: &[u64], from: usize) -> Name
+    ensures { λ r. ⌜ ((ns : List (List ℕ)) → Named (now (m .entry)) (drop from (now (names .entry))) (drop from (now (marks .entry))) ns → KeyRead (now (m .entry)) ns at r) ⌝ }
 {
-    let name = member_name(m, at, names, from);
+    let name = member_name(m, at, names, marks, from);
     match name {
-        Scan::Fault(n) => Scan::Fault(n),
-        Scan::End(end) => colon(m, end),
+        Name::Fault(f) => Name::Fault(f),
+        Name::New(end, mark) => {
+            let start = colon(m, end);
+            match start {
+                Scan::Fault(f) => Name::Fault(f),
+                Scan::End(value) => Name::New(value, mark),
+            }
+        }
     }
 }
 
@@ -692,7 +970,7 @@ fn value(m: &[u8], at: usize, depth: usize) -> Scan
     if at < m.len() {
         let b = m[at];
         if b == b'"' {
-            return skip_text(m, at);
+            return quoted(m, at);
         }
         if b == b'[' {
             if depth == 0 {
@@ -726,7 +1004,7 @@ fn array(m: &[u8], at: usize, depth: usize) -> Scan
     while left > 0 {
         let read = value(m, i, depth);
         match read {
-            Scan::Fault(n) => return Scan::Fault(n),
+            Scan::Fault(f) => return Scan::Fault(f),
             Scan::End(end) => {
                 let then = after(m, end, b']');
                 match then {
@@ -755,15 +1033,16 @@ fn object(m: &[u8], at: usize, depth: usize) -> Scan
         return Scan::End(i + 1);
     }
     let mut names = [0usize; 128];
+    let mut marks = [0u64; 128];
     let mut left: usize = 128;
     while left > 0 {
-        let start = key(m, i, &names, left);
+        let start = key(m, i, &names, &marks, left);
         match start {
-            Scan::Fault(n) => return Scan::Fault(n),
-            Scan::End(from) => {
+            Name::Fault(f) => return Scan::Fault(f),
+            Name::New(from, mark) => {
                 let read = value(m, from, depth);
                 match read {
-                    Scan::Fault(n) => return Scan::Fault(n),
+                    Scan::Fault(f) => return Scan::Fault(f),
                     Scan::End(end) => {
                         let then = after(m, end, b'}');
                         match then {
@@ -772,6 +1051,7 @@ fn object(m: &[u8], at: usize, depth: usize) -> Scan
                             Then::More(next) => {
                                 left -= 1;
                                 names[left] = i;
+                                marks[left] = mark;
                                 i = next;
                             }
                         }
@@ -807,16 +1087,11 @@ fn extra_member(m: &[u8], at: usize) -> Scan
     Scan::Fault(Fault::Malformed)
 }
 
-// A string as a value.
-fn skip_text(m: &[u8], at: usize) -> Scan
-    ensures { λ r. ⌜ Reads (now (m .entry)) (quotedOf (drop at (now (m .entry)))) r ⌝ }
+// Whether the string at a place is a text.
+pub fn name_is(m: &[u8], at: usize, key: &[u8]) -> bool
+    ensures { λ r. ⌜ ((t s : List ℕ) → quotedOf (drop at (now (m .entry))) ≡ got t s → r ≡ equalOf t (now (key .entry))) ⌝ }
 {
-    let mut w = [0u8; 1024];
-    let read = quoted(m, at, &mut w);
-    match read {
-        Text::Fault(n) => Scan::Fault(n),
-        Text::End(end, _) => Scan::End(end),
-    }
+    same_text(m, at, key)
 }
 
 // Where the next member or element begins, if there is one.
@@ -889,7 +1164,7 @@ pub fn past(m: &[u8], at: usize, depth: usize, bracket: u8) -> Cursor
 pub fn member_value(m: &[u8], at: usize) -> usize
     ensures { λ r. ⌜ ((ns : List (List ℕ)) (k s : List ℕ) → keyOf ns (drop at (now (m .entry))) ≡ got k s → s ≡ drop r (now (m .entry))) ⌝ }
 {
-    let name = skip_text(m, at);
+    let name = quoted(m, at);
     match name {
         Scan::Fault(_) => at,
         Scan::End(end) => {
@@ -951,24 +1226,6 @@ pub fn get(m: &[u8], at: usize, depth: usize, name: &[u8]) -> Found
     Found::Nothing
 }
 
-// Where the text of a string that has no escape ends: the first quote or backslash.
-fn plain_end(m: &[u8], from: usize) -> usize
-    ensures { λ r. ⌜ r ≡ from + length (plain (drop from (now (m .entry)))) ⌝ }
-{
-    let mut i = from;
-    while i < m.len() {
-        let b = m[i];
-        if b == b'"' {
-            return i;
-        }
-        if b == b'\\' {
-            return i;
-        }
-        i += 1;
-    }
-    i
-}
-
 // A string's text: a part of the manifest, or of the work buffer where it was decoded.
 pub struct TextAt {
     pub work: bool,
@@ -998,7 +1255,7 @@ pub fn read_text(m: &[u8], at: usize, w: &mut [u8]) -> TextAt
             };
         }
     }
-    let read = string(m, at + 1, w);
+    let read = decode(m, at + 1, w);
     match read {
         Text::Fault(_) => TextAt {
             work: true,
@@ -1070,7 +1327,7 @@ pub fn root(m: &[u8]) -> Scan
     let start = skip_space(m, from);
     let read = value(m, start, 16);
     match read {
-        Scan::Fault(n) => Scan::Fault(n),
+        Scan::Fault(f) => Scan::Fault(f),
         Scan::End(end) => {
             let last = skip_space(m, end);
             if last < m.len() {

@@ -23,7 +23,7 @@ use Rattle.package_json.proofs.extra_member.Reads as extra-member-reads
 use Rattle.package_json.proofs.key.Reads as key-reads
 use Rattle.package_json.proofs.scalar.Reads as scalar-reads
 use Rattle.package_json.proofs.skip_space.Reads as skip-space-reads
-use Rattle.package_json.proofs.skip_text.Reads as skip-text-reads
+use Rattle.package_json.proofs.quoted.Reads as quoted-reads
 use Rattle.package_json.proofs.+array+object+value.{statement}
 use Rattle.package_json.proofs.+array+object+value.Tie.{close}
 
@@ -61,10 +61,10 @@ abbrev array-μ-loop : array-lts.MeasureT-loop
 array-μ-loop m at depth i₀ left₀ i left = left
 
 abbrev object-Inv-loop : object-lts.InvT-loop
-object-Inv-loop m at depth i₀ names₀ left₀ i names left = Membs (valueOf depth) m (skipSpace (drop at m)) names i left
+object-Inv-loop m at depth i₀ names₀ marks₀ left₀ i names marks left = Membs (valueOf depth) m (skipSpace (drop at m)) names marks i left
 
 abbrev object-μ-loop : object-lts.MeasureT-loop
-object-μ-loop m at depth i₀ names₀ left₀ i names left = left
+object-μ-loop m at depth i₀ names₀ marks₀ left₀ i names marks left = left
 
 pub +array+object+value-spec : {M : Type 1} → statement M
 +array+object+value-spec = close μ-array μ-object μ-value (λ t. array-lts.spec (
@@ -123,32 +123,35 @@ pub +array+object+value-spec : {M : Type 1} → statement M
     (λ c. search needs)
     (λ c. search needs)
     (λ c. object-none _ _ _ _ (c .before .before .before .skip-space .ensures) (c .before .before .if1 .left) (c .if2 .taken))
-    (λ c. membs-begin _ _ _ _ _ (c .before .before .before .skip-space .ensures) (c .before .before .if1 .left) (c .if2 .left) refl)
+    (λ c. membs-begin _ _ _ _ _ _ (c .before .before .before .skip-space .ensures) (c .before .before .if1 .left) (c .if2 .left) refl refl)
     (λ c. sym (c .before .before .loop .inv .places))
+    (λ c. sym (c .before .before .before .loop .inv .marks))
     (λ c κs. search needs)
     (λ c. search needs)
-    (λ c. membs-key (c .before .before .before .before .before .before .loop .inv) (c .before .before .before .before .before .loop-test .taken) (c .before .before .before .key .ensures) (c .before .start .given .1))
-    (λ c. search needs)
-    (λ c κs. search needs)
-    (λ c. search needs)
-    (λ c. membs-fault (c .before .before .before .before .before .before .before .before .before .before .loop .inv) (c .before .before .before .before .before .before .before .before .before .loop-test .taken) (c .before .before .before .before .before .before .before .key .ensures) (c .before .before .before .before .before .start2 .given .1) (c .before .before .before .value .ensures) (c .before .read .given .1))
+    (λ c. membs-key (c .before .before .before .before .before .before .before .loop .inv) (c .before .before .before .before .before .before .loop-test .taken) (c .before .before .before .key .ensures) (c .before .start .given .1))
     (λ c. search needs)
     (λ c κs. search needs)
     (λ c. search needs)
-    (λ c. membs-neither (c .before .before .before .before .before .before .before .before .before .before .before .before .before .loop .inv) (c .before .before .before .before .before .before .before .before .before .before .before .before .loop-test .taken) (c .before .before .before .before .before .before .before .before .before .before .key .ensures) (c .before .before .before .before .before .before .before .before .start2 .given .1) (c .before .before .before .before .before .before .value .ensures) (c .before .before .before .before .read2 .given .1) (c .before .before .after .ensures) (c .enum-told .given .1))
+    (λ c. membs-fault (c .before .before .before .before .before .before .before .before .before .before .before .loop .inv) (c .before .before .before .before .before .before .before .before .before .before .loop-test .taken) (c .before .before .before .before .before .before .before .key .ensures) (c .before .before .before .before .before .start2 .given .1) (c .before .before .before .value .ensures) (c .before .read .given .1))
     (λ c. search needs)
-    (λ c. membs-close (c .before .before .before .before .before .before .before .before .before .before .before .before .before .before .loop .inv) (c .before .before .before .before .before .before .before .before .before .before .before .before .before .loop-test .taken) (c .before .before .before .before .before .before .before .before .before .before .before .key .ensures) (c .before .before .before .before .before .before .before .before .before .start2 .given .1) (c .before .before .before .before .before .before .before .value .ensures) (c .before .before .before .before .before .read2 .given .1) (c .before .before .before .after .ensures) (c .before .then .given .1))
+    (λ c κs. search needs)
+    (λ c. search needs)
+    (λ c. membs-neither (c .before .before .before .before .before .before .before .before .before .before .before .before .before .before .loop .inv) (c .before .before .before .before .before .before .before .before .before .before .before .before .before .loop-test .taken) (c .before .before .before .before .before .before .before .before .before .before .key .ensures) (c .before .before .before .before .before .before .before .before .start2 .given .1) (c .before .before .before .before .before .before .value .ensures) (c .before .before .before .before .read2 .given .1) (c .before .before .after .ensures) (c .enum-told .given .1))
+    (λ c. search needs)
+    (λ c. membs-close (c .before .before .before .before .before .before .before .before .before .before .before .before .before .before .before .loop .inv) (c .before .before .before .before .before .before .before .before .before .before .before .before .before .before .loop-test .taken) (c .before .before .before .before .before .before .before .before .before .before .before .key .ensures) (c .before .before .before .before .before .before .before .before .before .start2 .given .1) (c .before .before .before .before .before .before .before .value .ensures) (c .before .before .before .before .before .read2 .given .1) (c .before .before .before .after .ensures) (c .before .then .given .1))
     (λ c. search needs)
     (λ c. search needs)
     (λ c. search needs)
-    (λ c. omega (arith, c .before .before .before .before .before .before .before .before .before .before .before .before .before .before .loop .inv .places, c .before .before .before .before .before .before .before .before .before .before .before .before .before .before .loop .inv .within))
+    (λ c. omega (arith, c .before .before .before .before .before .before .before .before .before .before .before .before .before .before .before .loop .inv .places, c .before .before .before .before .before .before .before .before .before .before .before .before .before .before .before .loop .inv .within))
     (λ c. search needs)
-    (λ c. membs-more (c .before .before .before .before .before .before .before .before .before .before .before .before .before .before .loop .inv) (c .before .before .before .before .before .before .before .before .before .before .before .before .before .loop-test .taken) (c .before .before .before .before .before .before .before .before .before .before .before .key .ensures) (c .before .before .before .before .before .before .before .before .before .start2 .given .1) (c .before .before .before .before .before .before .before .value .ensures) (c .before .before .before .before .before .read2 .given .1) (c .before .before .before .after .ensures) (c .before .then2 .given .1))
+    (λ c. omega (arith, c .before .before .before .before .before .before .before .before .before .before .before .before .before .before .before .loop .inv .marks, c .before .before .before .before .before .before .before .before .before .before .before .before .before .before .before .loop .inv .within))
+    (λ c. search needs)
+    (λ c. membs-more (c .before .before .before .before .before .before .before .before .before .before .before .before .before .before .before .loop .inv) (c .before .before .before .before .before .before .before .before .before .before .before .before .before .before .loop-test .taken) (c .before .before .before .before .before .before .before .before .before .before .before .key .ensures) (c .before .before .before .before .before .before .before .before .before .start2 .given .1) (c .before .before .before .before .before .before .before .value .ensures) (c .before .before .before .before .before .read2 .given .1) (c .before .before .before .after .ensures) (c .before .then2 .given .1))
     (λ c κs. search needs)
     (λ c. membs-over (c .before .before .loop .inv) (c .before .loop-test .left) (c .extra-member .ensures _)))
     λ t. value-lts.spec (
-      skip-text-reads.Asked,
-      skip-text-reads.Learnt,
+      quoted-reads.Asked,
+      quoted-reads.Learnt,
       array-below t,
       array.Post,
       object-below t,
@@ -160,7 +163,7 @@ pub +array+object+value-spec : {M : Type 1} → statement M
     value.Post
     (λ c. search needs)
     (λ c κs. search needs)
-    (λ c. value-text _ _ _ (c .before .before .before .if1 .taken) (c .before .if2 .taken) (c .skip-text .ensures))
+    (λ c. value-text _ _ _ (c .before .before .before .if1 .taken) (c .before .if2 .taken) (c .quoted .ensures))
     (λ c. array-deep _ _ _ (c .before .before .before .before .if1 .taken) (c .before .if3 .taken) (c .if4 .taken))
     (λ c. search needs)
     (λ c. search needs)

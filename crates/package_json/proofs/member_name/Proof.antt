@@ -1,9 +1,10 @@
-use mathlib.Core.Path.{sym, _∙_}
+use mathlib.Core.Path.{refl}
 use Prim.Native.Nat.{_-_}
-use Rattle.package_json.proofs.Names.{name-fault, name-again, name-new, decodes-end, decodes-fits, decodes-fault}
-use lib.Seq.{length-take-le}
 use native.Mathlib.Omega.{arith}
 use borrow.Author.Needs.{needs}
+use Rattle.package_json.proofs.Strings.{quoted-out, quoted-string, text-plain}
+use Rattle.package_json.proofs.Names.{name-read, name-fault}
+use Rattle.package_json.proofs.Laws.{was-end, was-fault}
 use Rattle.package_json.proofs.member_name.Statement.{statement}
 use Rattle.package_json.proofs.member_name.Tie as tie
 
@@ -11,13 +12,20 @@ pub member-name-spec : {M : Type 1} → statement M
 member-name-spec =
     tie.close
     (tie.spec
+    (λ c κs. search needs)
+    (λ c. search needs)
+    (λ c. search needs)
+    (λ c. λ ns h. name-fault (c .before .before .before .before .before .before .before .before .args .m .now) ns (c .before .before .before .before .before .before .before .before .args .at) (quoted-out (c .before .before .before .before .before .before .before .before .args .m .now) (c .before .before .before .before .before .before .before .before .args .at) (c .if1 .taken)))
     (λ c. search needs)
     (λ c κs. search needs)
     (λ c. search needs)
     (λ c. search needs)
-    (λ c. omega (arith, decodes-fits (c .before .before .before .before .quoted .ensures) (c .before .read2 .given .1), c .before .before .before .before .quoted .kept .1 .1 .0))
-    (λ c. sym (length-take-le _ _ (omega (arith, decodes-fits (c .before .before .before .before .before .quoted .ensures) (c .before .before .read2 .given .1), c .before .before .before .before .before .quoted .kept .1 .1 .0))))
+    (λ c. search needs)
+    (λ c. omega (arith, c .before .before .before .plain-end .ensures))
+    (λ c. search needs)
     (λ c κs. search needs)
-    (λ c. λ ns h. name-again h (c .before .before .before .before .before .before .before .before .before .before .before .args .at) (decodes-end (c .before .before .before .before .before .before .before .quoted .ensures) (c .before .before .before .before .read2 .given .1)) (sym (c .before .repeated .ensures) ∙ c .if1 .taken))
-    (λ c. λ ns h. name-fault h (c .before .before .before .before .before .before .before .before .args .at) (decodes-fault (c .before .before .before .before .quoted .ensures) (c .before .read .given .1)))
-    (λ c. λ ns h. name-new h (c .before .before .before .before .before .before .before .before .before .before .before .args .at) (decodes-end (c .before .before .before .before .before .before .before .quoted .ensures) (c .before .before .before .before .read2 .given .1)) (sym (c .before .repeated .ensures) ∙ c .if1 .left)))
+    (λ c. λ ns h. let q = was-end (c .before .before .before .before .before .before .before .before .before .before .quoted .ensures) (c .before .before .before .before .before .before .before .before .read2 .given .1) in name-read (c .before .before .before .before .before .before .before .before .before .before .before .before .before .before .args .m .now) ns (c .before .before .before .before .before .before .before .before .before .before .before .before .before .before .args .at) _ _ (q .0) (c .fresh .result) (q .1) (text-plain _ _ (c .before .before .before .before .before .plain-end .result) (quoted-string (c .before .before .before .before .before .before .before .before .before .before .before .before .before .before .args .m .now) (c .before .before .before .before .before .before .before .before .before .before .before .before .before .before .args .at) _ _ (c .before .before .before .before .before .before .if1 .left) (q .1)) (c .before .before .before .before .before .plain-end .ensures) (c .before .before .before .before .if2 .taken) (c .before .before .if3 .taken)) (c .fresh .ensures ns h))
+    (λ c. search needs)
+    (λ c κs. search needs)
+    (λ c. λ ns h. name-fault (c .before .before .before .before .before .before .before .args .m .now) ns (c .before .before .before .before .before .before .before .args .at) (was-fault (c .before .before .before .quoted .ensures) (c .before .read .given .1)))
+    (λ c. λ ns h. let q = was-end (c .before .before .before .before .before .before .before .quoted .ensures) (c .before .before .before .before .before .read2 .given .1) in name-read (c .before .before .before .before .before .before .before .before .before .before .before .args .m .now) ns (c .before .before .before .before .before .before .before .before .before .before .before .args .at) _ _ (q .0) (c .escaped-name .result) (q .1) refl (c .escaped-name .ensures ns (q .0) h (quoted-string (c .before .before .before .before .before .before .before .before .before .before .before .args .m .now) (c .before .before .before .before .before .before .before .before .before .before .before .args .at) _ _ (c .before .before .before .if1 .left) (q .1)))))

@@ -7,7 +7,7 @@ use Rattle.package_json.proofs.member_value.Tie as tie
 use Rattle.package_json.proofs.member_value.Reads as reads
 use Rattle.package_json.proofs.member_value.Lts as lts
 use Rattle.package_json.proofs.colon.Reads as colon-reads
-use Rattle.package_json.proofs.skip_text.Reads as skip-text-reads
+use Rattle.package_json.proofs.quoted.Reads as quoted-reads
 
 pub member-value-spec : {M : Type 1} → statement M
 member-value-spec =
@@ -19,6 +19,6 @@ member-value-spec =
     (λ c κs. search needs)
     (λ c. search needs)
     (λ c. search needs)
-    (λ c. λ ns k s g. key-no-name _ (c .before .before .before .before .args .at) (c .before .before .skip-text .ensures) ns k s g (c .enum-told .given .1))
-    (λ c. λ ns k s g. key-no-colon _ (c .before .before .before .before .before .before .before .before .args .at) (c .before .before .before .before .before .before .skip-text .ensures) ns k s g (c .before .before .before .before .name .given .1) (c .before .before .colon .ensures) (c .enum-told2 .given .1))
-    (λ c. λ ns k s g. key-value _ (c .before .before .before .before .before .before .before .before .before .args .at) (c .before .before .before .before .before .before .before .skip-text .ensures) ns k s g (c .before .before .before .before .before .name .given .1) (c .before .before .before .colon .ensures) (c .before .start .given .1)))
+    (λ c. λ ns k s g. key-no-name _ (c .before .before .before .before .args .at) (c .before .before .quoted .ensures) ns k s g (c .enum-told .given .1))
+    (λ c. λ ns k s g. key-no-colon _ (c .before .before .before .before .before .before .before .before .args .at) (c .before .before .before .before .before .before .quoted .ensures) ns k s g (c .before .before .before .before .name .given .1) (c .before .before .colon .ensures) (c .enum-told2 .given .1))
+    (λ c. λ ns k s g. key-value _ (c .before .before .before .before .before .before .before .before .before .args .at) (c .before .before .before .before .before .before .before .quoted .ensures) ns k s g (c .before .before .before .before .before .name .given .1) (c .before .before .before .colon .ensures) (c .before .start .given .1)))

@@ -1,13 +1,11 @@
-use mathlib.Core.Path.{_≡_, refl, sym, _∙_, ap}
-use Prim.Native.Nat.{suc, _≤_, _<_, _-_, _+_, _*_}
-use lib.ListN.{length, drop, take}
-use Rattle.package_json.specs.Texts.{plain}
-use Rattle.package_json.proofs.Texts.{plain-on, plain-quote, plain-slash, plain-stop}
+use mathlib.Core.Path.{_≡_, refl, sym, _∙_}
+use Prim.Native.Nat.{_-_, _+_}
+use lib.ListN.{length, drop}
+use Rattle.package_json.specs.Decoded.{plain}
+use Rattle.package_json.proofs.Strings.{plain-on, plain-quote, plain-slash, plain-stop}
 use borrow.Author.Needs.{needs}
 use Rattle.package_json.proofs.plain_end.Statement.{statement}
 use Rattle.package_json.proofs.plain_end.Tie as tie
-use Rattle.package_json.proofs.plain_end.Reads as reads
-use Rattle.package_json.proofs.plain_end.Lts as lts
 
 abbrev Inv-loop : tie.InvT-loop
 Inv-loop m from i₀ i = from + length (plain (drop from m)) ≡ i + length (plain (drop i m))

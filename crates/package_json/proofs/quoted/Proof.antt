@@ -1,21 +1,17 @@
 use mathlib.Core.Path.{refl}
 use Prim.Native.Nat.{_-_}
-use Rattle.package_json.proofs.Rules.{here, past}
-use Rattle.definition.specs.Json.{quoted}
-use Rattle.package_json.proofs.Rules.{rules}
 use borrow.Author.Needs.{needs}
+use Rattle.package_json.proofs.Strings.{quoted-no, quoted-yes, quoted-out}
 use Rattle.package_json.proofs.quoted.Statement.{statement}
 use Rattle.package_json.proofs.quoted.Tie as tie
 
 pub quoted-spec : {M : Type 1} → statement M
-unfolding quoted
 quoted-spec =
     tie.close
     (tie.spec
     (λ c. search needs)
     (λ c. search needs)
     (λ c κs. search needs)
-    (λ c. search needs)
-    (λ c. rw (here _ _ (c .before .before .before .before .before .before .if1 .taken)) (rw (c .before .before .before .before .if2 .taken) (c .before .before .string .ensures)))
-    (λ c. record { is = rw (here _ _ (c .before .before .if1 .taken)) (search rules); kept = (0, refl) })
-    (λ c. record { is = rw (past _ _ (c .if1 .left)); kept = (0, refl) }))
+    (λ c. rw (quoted-yes _ _ (c .before .before .before .if1 .taken) (c .before .if2 .taken)) (c .string .ensures))
+    (λ c. rw (quoted-no _ _ (c .before .before .if1 .taken) (c .if2 .left)) (record { is = refl }))
+    (λ c. rw (quoted-out _ _ (c .if1 .left)) (record { is = refl })))

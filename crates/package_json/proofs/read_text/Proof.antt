@@ -10,7 +10,7 @@ use Rattle.package_json.proofs.read_text.Tie as tie
 use Rattle.package_json.proofs.read_text.Reads as reads
 use Rattle.package_json.proofs.read_text.Lts as lts
 use Rattle.package_json.proofs.plain_end.Reads as plain-end-reads
-use Rattle.package_json.proofs.string.Reads as string-reads
+use Rattle.package_json.proofs.decode.Reads as decode-reads
 
 pub read-text-spec : {M : Type 1} → statement M
 read-text-spec =
@@ -29,6 +29,6 @@ read-text-spec =
     (λ c. search needs)
     (λ c. search needs)
     (λ c. search needs)
-    (λ c. λ d s h. text-no-fault h (c .before .before .before .before .string .ensures) (c .enum-told .given .1))
+    (λ c. λ d s h. text-no-fault h (c .before .before .before .before .decode .ensures) (c .enum-told .given .1))
     (λ c. search needs)
-    (λ c. λ d s h. record { is = text-decoded h (c .before .before .before .before .before .string .ensures) (c .before .read .given .1); kept = decodes-kept (c .before .before .before .before .before .string .ensures) (c .before .read .given .1) }))
+    (λ c. λ d s h. record { is = text-decoded h (c .before .before .before .before .before .decode .ensures) (c .before .read .given .1); kept = decodes-kept (c .before .before .before .before .before .decode .ensures) (c .before .read .given .1) }))

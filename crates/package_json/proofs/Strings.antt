@@ -1,0 +1,337 @@
+-- Strings read without decoding them, and texts that have no escape.
+use mathlib.Core.Path.{_≡_, refl, sym, _∙_, ap}
+use mathlib.Core.Bool.{Bool, true, false, _||_}
+use mathlib.Core.List.{List, [], _∷_, _++_}
+use Prim.Native.Nat.{ℕ, zero, suc, _+_, _-_, _<_, _≤_}
+use native.Mathlib.Omega.{arith}
+use lib.ListN.{length, drop, take, getD}
+use lib.Seq.{drop-drop}
+use lib.Dec.{eqb, ltb, leb}
+use borrow.Author.Tests.{eq-eqb, ne-eqb, eqb-true, eqb-false, lt-ltb, le-ltb, lt-leb, le-leb, leb-true, leb-false}
+use Rattle.definition.specs.Text.{if_then_else_, within, equal}
+use Rattle.definition.specs.Json as json
+use Rattle.definition.specs.Json.{got, fault, malformed, beyond, andThen, between, sequence, bad, gives, plainByte, sequenceByte, step, goOn, string, quoted}
+use Rattle.package_json.specs.Scanned.{left, Reads}
+use Rattle.package_json.specs.Decoded.{Begun, plain}
+use Rattle.package_json.specs.Automaton.{placeOf, outOf, stepOf, Good, Fair, Steps}
+use Rattle.package_json.specs.Names.{Matches}
+use Rattle.package_json.specs.declared.Place.{Place}
+use Rattle.package_json.specs.declared.Out.{Out}
+use Rattle.package_json.specs.declared.Step.{Step}
+use Rattle.package_json.specs.declared.Step.the-variants.{Bad, Close, Gives}
+use Rattle.package_json.specs.declared.Scan.the-variants.{End, Fault}
+use Rattle.package_json.specs.declared.Fault.the-variants.{Malformed, Beyond}
+use Rattle.package_json.specs.declared.Match.the-variants.{To, No}
+use Rattle.package_json.proofs.Rules.{here, past}
+use Rattle.package_json.proofs.Laws.{both, left-map}
+
+none : {P : Type 0} → ⊥ → P
+none z = absurd z
+
+-- the loop over plain bytes
+module _ (m : List ℕ) (i : ℕ) where
+  pub plain-on : i < length m → (getD m i 0 ≡ 34 → ⊥) → (getD m i 0 ≡ 92 → ⊥) → i + length (plain (drop i m)) ≡ i + 1 + length (plain (drop (i + 1) m))
+  unfolding plain
+  plain-on l a b = rw (here m i l) (rw (ne-eqb (getD m i 0) 34 a, ne-eqb (getD m i 0) 92 b) (omega arith))
+
+  pub plain-quote : i < length m → getD m i 0 ≡ 34 → i + length (plain (drop i m)) ≡ i
+  unfolding plain
+  plain-quote l a = rw (here m i l) (rw (eq-eqb (getD m i 0) 34 a) (omega arith))
+
+  pub plain-slash : i < length m → (getD m i 0 ≡ 34 → ⊥) → getD m i 0 ≡ 92 → i + length (plain (drop i m)) ≡ i
+  unfolding plain
+  plain-slash l a b = rw (here m i l) (rw (ne-eqb (getD m i 0) 34 a, eq-eqb (getD m i 0) 92 b) (omega arith))
+
+  pub plain-stop : length m ≤ i → i + length (plain (drop i m)) ≡ i
+  unfolding plain
+  plain-stop l = rw (past m i l) (omega arith)
+
+pub plain-prefix : (s : List ℕ) → take (length (plain s)) s ≡ plain s
+unfolding plain
+plain-prefix [] = refl
+plain-prefix (b ∷ s) = go (eqb b 34 || eqb b 92) (plain-prefix s)
+  where
+    go : (p : Bool) → take (length (plain s)) s ≡ plain s → take (length (if p then [] else b ∷ plain s)) (b ∷ s) ≡ (if p then [] else b ∷ plain s)
+    go true h = refl
+    go false h = ap (λ t. b ∷ t) h
+
+-- where a string's reader stands while it meets no escape
+pub data Calm : json.Place → Type 0 where
+  free : Calm between
+  inner : (n lo hi : ℕ) → 128 ≤ lo → Calm (sequence n lo hi)
+
+-- what a plain byte does there
+data Does (b : ℕ) : json.Step → Type 0 where
+  wrong : Does b bad
+  itself : {p : json.Place} → Calm p → Does b (gives (b ∷ []) p)
+
+does-if : (b : ℕ) (p : Bool) {x y : json.Step} → Does b x → Does b y → Does b (if p then x else y)
+does-if b true f g = f
+does-if b false f g = g
+
+does-sequence : (n b : ℕ) → Does b (sequenceByte n b)
+unfolding sequenceByte
+does-sequence zero b = wrong
+does-sequence (suc zero) b = itself free
+does-sequence (suc (suc n)) b = itself (inner (suc n) 128 191 (omega arith))
+
+does : (p : json.Place) → Calm p → (b : ℕ) → (b ≡ 34 → ⊥) → (b ≡ 92 → ⊥) → Does b (step p b)
+unfolding step plainByte
+does p free b q a =
+    rw (ne-eqb b 34 q, ne-eqb b 92 a)
+    (does-if b (ltb b 32) wrong
+    (does-if b (ltb b 128) (itself free)
+    (does-if b (within 194 223 b) (itself (inner 1 128 191 (omega arith)))
+    (does-if b (eqb b 224) (itself (inner 2 160 191 (omega arith)))
+    (does-if b (eqb b 237) (itself (inner 2 128 159 (omega arith)))
+    (does-if b (within 225 239 b) (itself (inner 2 128 191 (omega arith)))
+    (does-if b (eqb b 240) (itself (inner 3 144 191 (omega arith)))
+    (does-if b (within 241 243 b) (itself (inner 3 128 191 (omega arith)))
+    (does-if b (eqb b 244) (itself (inner 3 128 143 (omega arith))) wrong)))))))))
+does p (inner n lo hi h) b q a = does-if b (within lo hi b) (does-sequence n b) wrong
+
+-- the closing quote
+ends : (p : json.Place) → Calm p → (room : ℕ) (s t r : List ℕ) → goOn (step p 34) room (λ r q. string r q s) s ≡ got t r → t ≡ []
+unfolding goOn step plainByte within
+ends p free room s t r h = cc
+ends p (inner n lo hi l) room s t r h = let z = rw (lt-leb lo 34 (omega arith)) at h in cc
+
+goes : (b room : ℕ) (s t r : List ℕ) (x : json.Step) → Does b x → ((room : ℕ) (p : json.Place) → Calm p → (t r : List ℕ) → string room p s ≡ got t r → t ≡ plain s) → goOn x room (λ r q. string r q s) s ≡ got t r → t ≡ b ∷ plain s
+unfolding goOn
+goes b room s t r x wrong f h = cc
+goes b room s t r x (itself {p} c) f h = go (leb 1 room) h
+  where
+    go : (l : Bool) → (if l then andThen (string (room - 1) p s) (λ t r. got (b ∷ t) r) else fault beyond) ≡ got t r → t ≡ b ∷ plain s
+    go true h = let k = both (string (room - 1) p s) (λ t r. got (b ∷ t) r) t r h in let z = f (room - 1) p c (k .value) (k .rest) (k .first) in cc (k .second)
+    go false h = cc
+
+-- a string that ends at the first quote or backslash is its own bytes
+plain-string : (s : List ℕ) (room : ℕ) (p : json.Place) → Calm p → (t r : List ℕ) → string room p s ≡ got t r → (u : List ℕ) → drop (length (plain s)) s ≡ 34 ∷ u → t ≡ plain s
+unfolding string plain
+plain-string [] room p c t r h u e = cc
+plain-string (b ∷ s) room p c t r h u e = go (eqb b 34) (eqb b 92) refl refl (λ room p c t r h. λ e. plain-string s room p c t r h u e) e
+  where
+    go : (x y : Bool) → eqb b 34 ≡ x → eqb b 92 ≡ y
+        → ((room : ℕ) (p : json.Place) → Calm p → (t r : List ℕ) → string room p s ≡ got t r → drop (length (plain s)) s ≡ 34 ∷ u → t ≡ plain s)
+        → drop (length (if x || y then [] else b ∷ plain s)) (b ∷ s) ≡ 34 ∷ u → t ≡ (if x || y then [] else b ∷ plain s)
+    go true y ex ey f e = let z : b ≡ 34 = eqb-true b 34 ex in ends p c room s t r (rw z at h)
+    go false true ex ey f e = none (eqb-false b 34 ex (let z : b ≡ 34 = cc in z))
+    go false false ex ey f e = goes b room s t r (step p b) (does p c b (eqb-false b 34 ex) (eqb-false b 92 ey)) (λ room p c t r h. f room p c t r h e) h
+
+-- a string from its opening quote
+pub quoted-string : (m : List ℕ) (at : ℕ) (k s : List ℕ) → at < length m → quoted (drop at m) ≡ got k s → string 1024 between (drop (at + 1) m) ≡ got k s
+unfolding quoted
+quoted-string m at k s l h = go (eqb (getD m at 0) 34) (rw (here m at l) at h)
+  where
+    go : (b : Bool) → (if b then string 1024 between (drop (at + 1) m) else fault malformed) ≡ got k s → string 1024 between (drop (at + 1) m) ≡ got k s
+    go true h = h
+    go false h = cc
+
+pub quoted-out : (m : List ℕ) (at : ℕ) → length m ≤ at → quoted (drop at m) ≡ fault malformed
+unfolding quoted
+quoted-out m at l = rw (past m at l)
+
+pub quoted-beyond : {P : Type 0} (m : List ℕ) (at : ℕ) {k s : List ℕ} → length m ≤ at → quoted (drop at m) ≡ got k s → P
+quoted-beyond m at l h = none (let z = quoted-out m at l in let y : _≡_ {A = ℕ} 0 1 = cc in omega arith)
+
+module _ (m : List ℕ) (at : ℕ) (l : at < length m) where
+  pub quoted-no : (getD m at 0 ≡ 34 → ⊥) → quoted (drop at m) ≡ fault malformed
+  unfolding quoted
+  quoted-no e = rw (here m at l) (rw (ne-eqb (getD m at 0) 34 e))
+
+  pub quoted-yes : getD m at 0 ≡ 34 → quoted (drop at m) ≡ string 1024 between (drop (at + 1) m)
+  unfolding quoted
+  quoted-yes e = rw (here m at l) (rw (eq-eqb (getD m at 0) 34 e))
+
+-- a string whose first quote or backslash is a quote is the bytes before it
+pub text-plain : (m : List ℕ) (from r : ℕ) {s t : List ℕ} → string 1024 between (drop from m) ≡ got s t → r ≡ from + length (plain (drop from m)) → r < length m → getD m r 0 ≡ 34 → take (r - from) (drop from m) ≡ s
+text-plain m from r {s} {t} h e l q =
+    let k : r - from ≡ length (plain (drop from m)) = omega arith in
+    let b : drop (length (plain (drop from m))) (drop from m) ≡ 34 ∷ drop (r + 1) m = drop-drop (length (plain (drop from m))) from m ∙ ap (λ n. drop n m) (sym e) ∙ here m r l ∙ ap (λ x. x ∷ drop (r + 1) m) q in
+    rw k (plain-prefix (drop from m)) ∙ sym (plain-string (drop from m) 1024 between free s t h (drop (r + 1) m) b)
+
+-- a byte that gives decoded bytes
+gives-left : (room : ℕ) (p q : json.Place) (b : ℕ) (s out : List ℕ) → step p b ≡ gives out q → length out ≤ room → left (string room p (b ∷ s)) ≡ left (string (room - length out) q s)
+unfolding string goOn
+gives-left room p q b s out e h = rw e (rw (le-leb (length out) room h) (left-map (λ t. out ++ t) (string (room - length out) q s)))
+
+-- the loop over ASCII
+pub begun : (m : List ℕ) (at : ℕ) → Begun m at at
+begun m at = let z : 1024 - (at - at) ≡ 1024 = omega arith in record { from = omega arith; room = omega arith; rest = rw z }
+
+ascii-step : (b : ℕ) → 32 ≤ b → b < 128 → (b ≡ 34 → ⊥) → (b ≡ 92 → ⊥) → step between b ≡ gives (b ∷ []) between
+unfolding step plainByte
+ascii-step b l h q a = rw (le-ltb b 32 l, ne-eqb b 34 q, ne-eqb b 92 a, lt-ltb b 128 h)
+
+pub begun-on : {m : List ℕ} {at i : ℕ} → Begun m at i → i < length m → 32 ≤ getD m i 0 → getD m i 0 < 128 → (getD m i 0 ≡ 34 → ⊥) → (getD m i 0 ≡ 92 → ⊥) → i - at < 1024 → Begun m at (i + 1)
+begun-on {m} {at} {i} g l lo hi q a h =
+    let f = g .from in
+    let z : 1024 - (i - at) - 1 ≡ 1024 - (i + 1 - at) = omega arith in
+    record {
+      from = omega arith;
+      room = omega arith;
+      rest = g .rest ∙ rw (here m i l) (gives-left (1024 - (i - at)) between between (getD m i 0) (drop (i + 1) m) (getD m i 0 ∷ []) (ascii-step (getD m i 0) lo hi q a) (omega arith) ∙ rw z);
+    }
+
+-- the loop over a string
+pub record Scanning (m : List ℕ) (at : ℕ) (p : Place) (i n : ℕ) : Type 0 where
+  pub room : n ≤ 1024
+  pub good : Good p
+  pub rest : left (string 1024 between (drop at m)) ≡ left (string (1024 - n) (placeOf p) (drop i m))
+
+pub scan-start : {m : List ℕ} {at i : ℕ} → Begun m at i → Scanning m at Place.Between i (i - at)
+scan-start g = record { room = g .room; good = tt; rest = g .rest }
+
+module _ {m : List ℕ} {at : ℕ} {p : Place} {i n : ℕ} (g : Scanning m at p i n) where
+  pub scan-end : length m ≤ i → Reads m (string 1024 between (drop at m)) (Fault Malformed)
+  unfolding string
+  scan-end l = record { is = g .rest ∙ rw (past m i l) }
+
+  module _ (l : i < length m) {s : Step} (e : Steps (step (placeOf p) (getD m i 0)) s) where
+    turn : (q : Step) → s ≡ q → left (string 1024 between (drop at m)) ≡ left (goOn (stepOf q) (1024 - n) (λ r q. string r q (drop (i + 1) m)) (drop (i + 1) m))
+    unfolding string
+    turn q h = g .rest ∙ rw (here m i l) (rw (sym (e .is) ∙ ap stepOf h))
+
+    pub scan-bad : s ≡ Bad → Reads m (string 1024 between (drop at m)) (Fault Malformed)
+    unfolding goOn
+    scan-bad h = record { is = turn Bad h }
+
+    pub scan-close : s ≡ Close → Reads m (string 1024 between (drop at m)) (End (i + 1))
+    unfolding goOn
+    scan-close h = record { is = turn Close h }
+
+    module _ {o : Out} {q : Place} {k : ℕ} (h : s ≡ Gives o q) (c : k ≡ length (outOf o)) where
+      pub scan-over : 1024 - n < k → Reads m (string 1024 between (drop at m)) (Fault Beyond)
+      unfolding goOn
+      scan-over b = record { is = turn (Gives o q) h ∙ rw (lt-leb (length (outOf o)) (1024 - n) (omega arith)) }
+
+      pub scan-gives : k ≤ 1024 - n → Scanning m at q (i + 1) (n + k)
+      unfolding goOn
+      scan-gives b =
+          let z = g .room in
+          let y : 1024 - n - length (outOf o) ≡ 1024 - (n + k) = omega arith in
+          record {
+            room = omega arith;
+            good = rw h at (e .good) .1;
+            rest =
+                turn (Gives o q) h
+                ∙ rw (le-leb (length (outOf o)) (1024 - n) (omega arith)) (left-map (λ t. outOf o ++ t) (string (1024 - n - length (outOf o)) (placeOf q) (drop (i + 1) m)) ∙ rw y);
+          }
+
+-- a string was read from a byte on that gives decoded bytes
+took : (room : ℕ) (q : json.Place) (s out t r : List ℕ) → goOn (gives out q) room (λ r q. string r q s) s ≡ got t r → (u : List ℕ) × ((string (room - length out) q s ≡ got u r) × (t ≡ out ++ u))
+unfolding goOn
+took room q s out t r h = go (leb (length out) room) h
+  where
+    go : (b : Bool) → (if b then andThen (string (room - length out) q s) (λ t r. got (out ++ t) r) else fault beyond) ≡ got t r → (u : List ℕ) × ((string (room - length out) q s ≡ got u r) × (t ≡ out ++ u))
+    go true h = let k = both (string (room - length out) q s) (λ t r. got (out ++ t) r) t r h in (k .value, (k .first ∙ (let z : k .rest ≡ r = cc (k .second) in ap (λ x. got (k .value) x) z), cc (k .second)))
+    go false h = none (let z : _≡_ {A = ℕ} 0 1 = cc in omega arith)
+
+unread : (room : ℕ) (s t r : List ℕ) → goOn bad room (λ r q. string r q s) s ≡ got t r → ⊥
+unfolding goOn
+unread room s t r h = let z : _≡_ {A = ℕ} 0 1 = cc in omega arith
+
+-- what a step gives is in range
+pub fair-out : {x : json.Step} {s : Step} {o : Out} {q : Place} → Steps x s → s ≡ Gives o q → Fair o
+fair-out e h = rw h at (e .good) .0
+
+pub good-place : {x : json.Step} {s : Step} {o : Out} {q : Place} → Steps x s → s ≡ Gives o q → Good q
+good-place e h = rw h at (e .good) .1
+
+-- a text is compared with what is left of another: to the end of both
+pub ends-both : (key : List ℕ) (k : ℕ) → leb (length key) k ≡ equal [] (drop k key)
+unfolding equal
+ends-both key k = go (leb (length key) k) refl
+  where
+    go : (b : Bool) → leb (length key) k ≡ b → b ≡ equal [] (drop k key)
+    go true e = rw (past key k (leb-true _ _ e))
+    go false e = rw (here key k (leb-false _ _ e))
+
+-- the comparison so far: the text t of the string from `at` on against the key, and u of what is left of it against what is left of the key
+pub record Compared (m key : List ℕ) (p : json.Place) (i k : ℕ) (t s from : List ℕ) : Type 0 where
+  pub room : ℕ
+  pub text : List ℕ
+  pub reads : string room p (drop i m) ≡ got text s
+  pub same : equal t from ≡ equal text (drop k key)
+
+module _ {m key : List ℕ} {i k : ℕ} {t s from : List ℕ} where
+  pub compared-out : {p : json.Place} {P : Type 0} → Compared m key p i k t s from → length m ≤ i → P
+  unfolding string
+  compared-out c l = none (let h = rw (past m i l) at (c .reads) in let z : _≡_ {A = ℕ} 0 1 = cc in omega arith)
+
+  module _ (p : Place) (c : Compared m key (placeOf p) i k t s from) (l : i < length m) {x : Step} (e : Steps (step (placeOf p) (getD m i 0)) x) where
+    stepped : (q : Step) → x ≡ q → goOn (stepOf q) (c .room) (λ r q. string r q (drop (i + 1) m)) (drop (i + 1) m) ≡ got (c .text) s
+    unfolding string
+    stepped q h = rw (sym (sym (e .is) ∙ ap stepOf h)) (rw (here m i l) at (c .reads))
+
+    pub compared-bad : {P : Type 0} → x ≡ Bad → P
+    unfolding goOn
+    compared-bad h = none (let y = stepped Bad h in let z : _≡_ {A = ℕ} 0 1 = cc in omega arith)
+
+    pub compared-close : x ≡ Close → equal [] (drop k key) ≡ equal t from
+    unfolding goOn
+    compared-close h = let y = stepped Close h in let z : c .text ≡ [] = cc in sym (c .same ∙ rw z)
+
+    module _ {o : Out} {q : Place} (h : x ≡ Gives o q) where
+      pub compared-no : Matches key k (outOf o) No → false ≡ equal t from
+      compared-no f = let z = took (c .room) (placeOf q) (drop (i + 1) m) (outOf o) (c .text) s (stepped (Gives o q) h) in sym (c .same ∙ ap (λ x. equal x (drop k key)) (z .1 .1) ∙ f .is (z .0))
+
+      pub compared-on : {j : ℕ} → Matches key k (outOf o) (To j) → Compared m key (placeOf q) (i + 1) j t s from
+      compared-on {j} f =
+          let z = took (c .room) (placeOf q) (drop (i + 1) m) (outOf o) (c .text) s (stepped (Gives o q) h) in
+          record { room = c .room - length (outOf o); text = z .0; reads = z .1 .0; same = c .same ∙ ap (λ x. equal x (drop k key)) (z .1 .1) ∙ f .is (z .0) }
+
+-- the same byte by byte, while no escape was met
+pub record Verbatim (m key : List ℕ) (i k : ℕ) (t s : List ℕ) : Type 0 where
+  pub place : json.Place
+  pub calm : Calm place
+  pub so-far : Compared m key place i k t s key
+
+module _ {m key : List ℕ} {i k : ℕ} {t s : List ℕ} (v : Verbatim m key i k t s) (l : i < length m) where
+  byte : goOn (step (v .place) (getD m i 0)) (v .so-far .room) (λ r q. string r q (drop (i + 1) m)) (drop (i + 1) m) ≡ got (v .so-far .text) s
+  unfolding string
+  byte = rw (here m i l) at (v .so-far .reads)
+
+  pub verbatim-close : getD m i 0 ≡ 34 → equal [] (drop k key) ≡ equal t key
+  verbatim-close e = let z : v .so-far .text ≡ [] = ends (v .place) (v .calm) (v .so-far .room) (drop (i + 1) m) (v .so-far .text) s (rw e at byte) in sym (v .so-far .same ∙ rw z)
+
+  pub verbatim-escape : getD m i 0 ≡ 92 → Compared m key between i k t s key
+  unfolding step goOn within string
+  verbatim-escape e = go (v .place) (v .calm) (v .so-far)
+    where
+      go : (p : json.Place) → Calm p → Compared m key p i k t s key → Compared m key between i k t s key
+      go p free c = c
+      go p (inner n lo hi b) c = none (let h = rw (lt-leb lo 92 (omega arith)) at (rw (here m i l ∙ ap (λ x. x ∷ drop (i + 1) m) e) at (c .reads)) in let z : _≡_ {A = ℕ} 0 1 = cc in omega arith)
+
+  module _ (q : getD m i 0 ≡ 34 → ⊥) (a : getD m i 0 ≡ 92 → ⊥) where
+    tail : (x : json.Step) → Does (getD m i 0) x → goOn x (v .so-far .room) (λ r q. string r q (drop (i + 1) m)) (drop (i + 1) m) ≡ got (v .so-far .text) s
+        → (p : json.Place) × (Calm p × ((u : List ℕ) × ((string (v .so-far .room - 1) p (drop (i + 1) m) ≡ got u s) × (v .so-far .text ≡ getD m i 0 ∷ u))))
+    tail x (itself {p} c) h = (p, (c, took (v .so-far .room) p (drop (i + 1) m) (getD m i 0 ∷ []) (v .so-far .text) s h))
+    tail x wrong h = none (unread (v .so-far .room) (drop (i + 1) m) (v .so-far .text) s h)
+
+    there : (p : json.Place) × (Calm p × ((u : List ℕ) × ((string (v .so-far .room - 1) p (drop (i + 1) m) ≡ got u s) × (v .so-far .text ≡ getD m i 0 ∷ u))))
+    there = tail (step (v .place) (getD m i 0)) (does (v .place) (v .calm) (getD m i 0) q a) byte
+
+    pub verbatim-short : length key ≤ k → false ≡ equal t key
+    unfolding equal
+    verbatim-short n = let z = there in sym (v .so-far .same ∙ rw (z .1 .1 .1 .1, past key k n))
+
+    module _ (n : k < length key) where
+      pub verbatim-other : (getD key k 0 ≡ getD m i 0 → ⊥) → false ≡ equal t key
+      unfolding equal
+      verbatim-other d = let z = there in sym (v .so-far .same ∙ rw (z .1 .1 .1 .1, here key k n) (rw (ne-eqb (getD m i 0) (getD key k 0) (λ e. d (sym e)))))
+
+      pub verbatim-on : getD key k 0 ≡ getD m i 0 → Verbatim m key (i + 1) (k + 1) t s
+      unfolding equal
+      verbatim-on d =
+          let z = there in
+          record {
+            place = z .0;
+            calm = z .1 .0;
+            so-far = record {
+              room = v .so-far .room - 1;
+              text = z .1 .1 .0;
+              reads = z .1 .1 .1 .0;
+              same = v .so-far .same ∙ ap (λ x. equal x (drop k key)) (z .1 .1 .1 .1) ∙ rw (here key k n) (rw (eq-eqb (getD m i 0) (getD key k 0) (sym d)));
+            };
+          }
