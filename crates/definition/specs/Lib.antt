@@ -66,11 +66,3 @@ pub mod CallEnds
 pub mod CallTwice
 pub mod WalkBounds
 pub mod DemandThree
--- Examples, by computation
-pub mod Examples
-pub mod ExportsTests
-pub mod JsonExamples
-pub mod LookupExamples
-pub mod ReorderedExample
-pub mod PrintedExample
-pub mod DemandThreeExample

@@ -3,3 +3,4 @@ pub mod Contexts
 pub mod Stars
 pub mod Targets
 pub mod Parsing
+pub mod Loops

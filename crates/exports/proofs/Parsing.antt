@@ -137,3 +137,10 @@ module _ (s : List ℕ) (r : answer.Specifier) (e : meant s r ≡ partsOf (parse
       pub string-invalid : startsWith (text "./") t ≡ false → resolved d (outcomeIn (q .packageURL) (q .key) (q .matched) InvalidTarget (pathText (r .path))) ≡ stringTarget q (parseSpecifier s) s (contextOf c)
       unfolding invalidTarget
       string-invalid g = whole _ (rw g (ap (invalidTarget q) (sym f)))
+
+-- the context from the slices that the code cuts out
+pub context-of : (y x : exports.Context) (a b f s : List ℕ) (n q k : ℕ) → y ≡ withQueryFragment x (take 1024 a) (take 1024 b) → a ≡ take n (drop q f) → f ≡ take k s → b ≡ take n (drop k s)
+    → y ≡ withQueryFragment x (take 1024 (take n (drop q (take k s)))) (take 1024 (take n (drop k s)))
+context-of y x a b f s n q k e g h i =
+    e ∙ ap (λ z. withQueryFragment x (take 1024 z) (take 1024 b)) (g ∙ ap (λ z. take n (drop q z)) h)
+    ∙ ap (λ z. withQueryFragment x (take 1024 (take n (drop q (take k s)))) (take 1024 z)) i

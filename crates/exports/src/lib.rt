@@ -1,5 +1,7 @@
 // The exports algorithms of the Node.js documents, as lib.rs has them.
 use path::PathBuf;
+use package_json::Cursor;
+use package_json::Kind;
 use specifier::Specifier;
 ghost use mathlib.Core.Path.{_≡_};
 ghost use mathlib.Core.List.{List, [], _++_};
@@ -7,14 +9,17 @@ ghost use Prim.Native.Nat.{ℕ, _+_, _-_, _≤_, _<_, suc};
 ghost use lib.ListN.{length, drop, take};
 ghost use mathlib.Core.Bool.{_&&_, _||_};
 ghost use lib.Dec.{leb};
-ghost use Rattle.definition.specs.Text.{star, equal, endsWith, replace};
+ghost use Rattle.definition.specs.Text.{text, star, equal, endsWith, isOneOf, replace};
+ghost use Rattle.definition.specs.Settings.{textsOf};
+ghost use Rattle.definition.specs.Json.{str, got, quoted};
+ghost use Rattle.package_json.specs.Stands.{Stands};
 ghost use Rattle.definition.specs.Path.{limited};
 ghost use Rattle.path.specs.Meaning.{pathOf};
 ghost use Rattle.definition.specs.Exports.{PATTERN-KEY-COMPARE, isSubpathKey, starMatch, patternMatch, orOld, withQueryFragment, Request, target, targetPath, normalizeStringTarget, stringTarget};
 ghost use Rattle.definition.specs.Specifier.{parseSpecifier};
 ghost use Rattle.exports.specs.Keys.{rankOf, orderOf, matchOf};
 ghost use Rattle.exports.specs.Contexts.{contextOf};
-ghost use Rattle.exports.specs.Answers.{answerOf, resolved, Asked};
+ghost use Rattle.exports.specs.Answers.{answerOf, resolved, Asked, isNothing, isSome, isPassed, Resolves};
 
 pub enum Order {
     Less,
@@ -369,5 +374,189 @@ fn text_target(url: &[u8], form: Form, pattern: &[u8], s: &[u8], c: Context) -> 
         context,
         path,
         outcome: Outcome::InvalidTarget,
+    }
+}
+
+// The string at a place as a target.
+fn string_target(
+    m: &[u8],
+    at: usize,
+    url: &[u8],
+    form: Form,
+    pattern: &[u8],
+    c: Context,
+    work: &mut [u8],
+) -> Answer
+    requires { ⌜ 1024 ≤ length (now work) ⌝ }
+    ensures { λ r. ⌜ ((q : Request) (d : ℕ) (s : List ℕ) → Asked q (now (url .entry)) form (now (pattern .entry)) → Stands (now (m .entry)) d at (str s) → answerOf q r ≡ stringTarget q (parseSpecifier s) s (contextOf c)) ⌝ }
+{
+    let t = package_json::read_text(m, at, work);
+    text_target(url, form, pattern, package_json::text_at(m, work, t), c)
+}
+
+// Whether the condition holds that the member at a place names.
+fn condition_holds(m: &[u8], at: usize, settings: &[u8]) -> bool
+    ensures { λ r. ⌜ ((k s : List ℕ) → quoted (drop at (now (m .entry))) ≡ got k s → r ≡ (equal k (text "default") || isOneOf (textsOf (now (settings .entry)) 0) k)) ⌝ }
+{
+    if package_json::name_is(m, at, b"default") {
+        return true;
+    }
+    let n = settings::count(settings, settings::Kind::Conditions);
+    let mut i: usize = 0;
+    while i < n {
+        let condition = settings::text(settings, settings::Kind::Conditions, i);
+        if package_json::name_is(m, at, condition) {
+            return true;
+        }
+        i += 1;
+    }
+    false
+}
+
+// Nothing was found: the next condition, or the next part of the algorithm, is tried.
+fn is_nothing(o: Outcome) -> bool
+    ensures { λ r. ⌜ r ≡ isNothing o ⌝ }
+{
+    match o {
+        Outcome::Nothing => true,
+        Outcome::Found => false,
+        Outcome::Empty => false,
+        Outcome::InvalidTarget => false,
+        Outcome::NotExportedMatch => false,
+        Outcome::NotExported => false,
+        Outcome::ConfigMixed => false,
+        Outcome::ConfigDirectory => false,
+        Outcome::OverLong => false,
+    }
+}
+
+fn is_some(c: Cursor) -> bool
+    ensures { λ r. ⌜ r ≡ isSome c ⌝ }
+{
+    match c {
+        Cursor::Done => false,
+        Cursor::At(_) => true,
+    }
+}
+
+// An element that gave nothing, or failed and is not the last: the next element is tried. A refusal ends the array.
+fn is_passed(o: Outcome, next: Cursor) -> bool
+    ensures { λ r. ⌜ r ≡ isPassed o next ⌝ }
+{
+    match o {
+        Outcome::Nothing => true,
+        Outcome::Found => false,
+        Outcome::OverLong => false,
+        Outcome::Empty => is_some(next),
+        Outcome::InvalidTarget => is_some(next),
+        Outcome::NotExportedMatch => is_some(next),
+        Outcome::NotExported => is_some(next),
+        Outcome::ConfigMixed => is_some(next),
+        Outcome::ConfigDirectory => is_some(next),
+    }
+}
+
+// The target at a place, in which `depth` more brackets may be open.
+fn package_target_resolve(
+    m: &[u8],
+    at: usize,
+    depth: usize,
+    settings: &[u8],
+    url: &[u8],
+    form: Form,
+    pattern: &[u8],
+    c: Context,
+    work: &mut [u8],
+) -> Answer
+    requires { ⌜ 1024 ≤ length (now work) ⌝ }
+    ensures { λ r. ⌜ Resolves (now (m .entry)) at depth (now (settings .entry)) (now (url .entry)) form (now (pattern .entry)) c r ⌝ }
+{
+    let kind = package_json::kind_at(m, at);
+    match kind {
+        Kind::Scalar => without_path(c, Outcome::Nothing),
+        Kind::String => string_target(m, at, url, form, pattern, c, work),
+        Kind::Array => {
+            if depth == 0 {
+                return without_path(c, Outcome::Nothing);
+            }
+            let mut cursor = package_json::first(m, at, b']');
+            let some = is_some(cursor);
+            if !some {
+                return without_path(c, Outcome::NotExportedMatch);
+            }
+            let mut context = c;
+            let mut left: usize = 128;
+            while left > 0 {
+                match cursor {
+                    Cursor::Done => return without_path(context, Outcome::Nothing),
+                    Cursor::At(i) => {
+                        let next = package_json::element(m, i, depth - 1);
+                        let r = package_target_resolve(
+                            m,
+                            i,
+                            depth - 1,
+                            settings,
+                            url,
+                            form,
+                            pattern,
+                            context,
+                            work,
+                        );
+                        let outcome = r.outcome;
+                        let passed = is_passed(outcome, next);
+                        if !passed {
+                            return r;
+                        }
+                        context = r.context;
+                        cursor = next;
+                        left -= 1;
+                    }
+                }
+            }
+            without_path(context, Outcome::Nothing)
+        }
+        Kind::Object => {
+            if depth == 0 {
+                return without_path(c, Outcome::Nothing);
+            }
+            let mut cursor = package_json::first(m, at, b'}');
+            let mut context = c;
+            let mut left: usize = 128;
+            while left > 0 {
+                match cursor {
+                    Cursor::Done => return without_path(context, Outcome::Nothing),
+                    Cursor::At(i) => {
+                        let e = package_json::entry_at(m, i, depth - 1);
+                        let value = e.value;
+                        let holds = condition_holds(m, i, settings);
+                        if holds {
+                            let r = package_target_resolve(
+                                m,
+                                value,
+                                depth - 1,
+                                settings,
+                                url,
+                                form,
+                                pattern,
+                                context,
+                                work,
+                            );
+                            let outcome = r.outcome;
+                            let passed = is_nothing(outcome);
+                            if !passed {
+                                return r;
+                            }
+                            context = r.context;
+                            cursor = e.next;
+                            left -= 1;
+                        } else {
+                            cursor = e.next;
+                            left -= 1;
+                        }
+                    }
+                }
+            }
+            without_path(context, Outcome::Nothing)
+        }
     }
 }
