@@ -4,3 +4,5 @@ pub mod Stars
 pub mod Targets
 pub mod Parsing
 pub mod Loops
+pub mod Objects
+pub mod Resolutions

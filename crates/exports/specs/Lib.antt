@@ -1,3 +1,4 @@
 pub mod Keys
 pub mod Contexts
 pub mod Answers
+pub mod Chosen

@@ -1,6 +1,7 @@
 // The exports algorithms of the Node.js documents, as lib.rs has them.
 use path::PathBuf;
 use package_json::Cursor;
+use package_json::Found;
 use package_json::Kind;
 use specifier::Specifier;
 ghost use mathlib.Core.Path.{_≡_};
@@ -10,16 +11,18 @@ ghost use lib.ListN.{length, drop, take};
 ghost use mathlib.Core.Bool.{_&&_, _||_};
 ghost use lib.Dec.{leb};
 ghost use Rattle.definition.specs.Text.{text, star, equal, endsWith, isOneOf, replace};
-ghost use Rattle.definition.specs.Settings.{textsOf};
-ghost use Rattle.definition.specs.Json.{str, got, quoted};
-ghost use Rattle.package_json.specs.Stands.{Stands};
+ghost use Rattle.definition.specs.Settings.{textsOf, settingsOf};
+ghost use mathlib.Core.Option.{Option, none};
+ghost use Rattle.definition.specs.Json.{Json, str, obj, Members, got, quoted};
+ghost use Rattle.package_json.specs.Stands.{Stands, Finds};
 ghost use Rattle.definition.specs.Path.{limited};
 ghost use Rattle.path.specs.Meaning.{pathOf};
-ghost use Rattle.definition.specs.Exports.{PATTERN-KEY-COMPARE, isSubpathKey, starMatch, patternMatch, orOld, withQueryFragment, Request, target, targetPath, normalizeStringTarget, stringTarget};
+ghost use Rattle.definition.specs.Exports.{PATTERN-KEY-COMPARE, isSubpathKey, starMatch, patternMatch, orOld, withQueryFragment, Request, target, targetPath, normalizeStringTarget, stringTarget, isDotKey, anyKey, Entry, entries, better as betterOf, best as bestOf, literal, bestResolve, mainExport, mainResolve, PACKAGE-IMPORTS-EXPORTS-RESOLVE, PACKAGE-EXPORTS-RESOLVE};
 ghost use Rattle.definition.specs.Specifier.{parseSpecifier};
 ghost use Rattle.exports.specs.Keys.{rankOf, orderOf, matchOf};
 ghost use Rattle.exports.specs.Contexts.{contextOf};
 ghost use Rattle.exports.specs.Answers.{answerOf, resolved, Asked, isNothing, isSome, isPassed, Resolves};
+ghost use Rattle.exports.specs.Chosen.{aKey, joinedKeys, keysOf, BestOf, formOf, withKey, resolvedOf, fresh, dotRequest, keysOrNot, IsWhole};
 
 pub enum Order {
     Less,
@@ -558,5 +561,462 @@ fn package_target_resolve(
             }
             without_path(context, Outcome::Nothing)
         }
+    }
+}
+
+// What the keys of an object begin with.
+struct KeyMarks {
+    // some key begins with "." or "#"
+    dot: bool,
+    // some key does not
+    other: bool,
+    // some key begins with "./" or "#"
+    subpath: bool,
+}
+
+fn is_dot_key(key: &[u8]) -> bool
+    ensures { λ r. ⌜ r ≡ isDotKey (now (key .entry)) ⌝ }
+{
+    if text::starts_with(key, b".") {
+        return true;
+    }
+    text::starts_with(key, b"#")
+}
+
+// The key at a place.
+fn key_at(m: &[u8], at: usize, work: &mut [u8]) -> KeyMarks
+    requires { ⌜ 1024 ≤ length (now work) ⌝ }
+    ensures { λ r. ⌜ ((k s : List ℕ) → quoted (drop at (now (m .entry))) ≡ got k s → r ≡ aKey k) ⌝ }
+{
+    let t = package_json::read_text(m, at, work);
+    let key = package_json::text_at(m, work, t);
+    let dot = is_dot_key(key);
+    let subpath = is_subpath_key(key);
+    KeyMarks {
+        dot,
+        other: !dot,
+        subpath,
+    }
+}
+
+fn either(a: bool, b: bool) -> bool
+    ensures { λ r. ⌜ r ≡ (a || b) ⌝ }
+{
+    if a {
+        return true;
+    }
+    b
+}
+
+fn joined(a: KeyMarks, b: KeyMarks) -> KeyMarks
+    ensures { λ r. ⌜ r ≡ joinedKeys a b ⌝ }
+{
+    KeyMarks {
+        dot: either(a.dot, b.dot),
+        other: either(a.other, b.other),
+        subpath: either(a.subpath, b.subpath),
+    }
+}
+
+// The keys of the object at a place.
+fn keys_of(m: &[u8], at: usize, work: &mut [u8]) -> KeyMarks
+    requires { ⌜ 1024 ≤ length (now work) ⌝ }
+    ensures { λ r. ⌜ ((ms : Members) → Stands (now (m .entry)) 15 at (obj ms) → r ≡ keysOf (entries ms)) ⌝ }
+{
+    let mut cursor = package_json::first(m, at, b'}');
+    let mut keys = KeyMarks {
+        dot: false,
+        other: false,
+        subpath: false,
+    };
+    let mut left: usize = 128;
+    while left > 0 {
+        match cursor {
+            Cursor::Done => return keys,
+            Cursor::At(i) => {
+                let e = package_json::entry_at(m, i, 14);
+                let key = key_at(m, i, work);
+                keys = joined(keys, key);
+                cursor = e.next;
+                left -= 1;
+            }
+        }
+    }
+    keys
+}
+
+// The pattern key that comes first of those that match: the places of the key and of its value, and the part of the match key that is left over.
+struct Best {
+    found: bool,
+    key: usize,
+    value: usize,
+    rank: Rank,
+    start: usize,
+    len: usize,
+}
+
+// The member whose key and value stand at two places, where it matches and comes before the best so far.
+fn better(m: &[u8], key: usize, value: usize, subpath: &[u8], best: Best, work: &mut [u8]) -> Best
+    requires { ⌜ 1024 ≤ length (now work) ⌝ }
+    ensures { λ r. ⌜ ((o : Option Entry) (k s : List ℕ) (j : Json) → quoted (drop key (now (m .entry))) ≡ got k s → Stands (now (m .entry)) 14 value j → BestOf (now (m .entry)) (now (subpath .entry)) best o → BestOf (now (m .entry)) (now (subpath .entry)) r (betterOf (now (subpath .entry)) o (record { key = k; target = j }))) ⌝ }
+{
+    let t = package_json::read_text(m, key, work);
+    let name = package_json::text_at(m, work, t);
+    let part = pattern_match(subpath, name);
+    match part {
+        Match::Nothing => best,
+        Match::Part { start, len } => {
+            let rank = rank_of(name);
+            let old = best.rank;
+            let order = compare(old, rank);
+            match order {
+                Order::Less => best,
+                Order::Equal => best,
+                Order::Greater => Best {
+                    found: true,
+                    key,
+                    value,
+                    rank,
+                    start,
+                    len,
+                },
+            }
+        }
+    }
+}
+
+fn best_key(m: &[u8], at: usize, subpath: &[u8], work: &mut [u8]) -> Best
+    requires { ⌜ 1024 ≤ length (now work) ⌝ }
+    ensures { λ r. ⌜ ((ms : Members) → Stands (now (m .entry)) 15 at (obj ms) → BestOf (now (m .entry)) (now (subpath .entry)) r (bestOf (now (subpath .entry)) none (entries ms))) ⌝ }
+{
+    let mut cursor = package_json::first(m, at, b'}');
+    let mut best = Best {
+        found: false,
+        key: 0,
+        value: 0,
+        rank: Rank {
+            base: 0,
+            starred: false,
+            len: 0,
+        },
+        start: 0,
+        len: 0,
+    };
+    let mut left: usize = 128;
+    while left > 0 {
+        match cursor {
+            Cursor::Done => return best,
+            Cursor::At(i) => {
+                let e = package_json::entry_at(m, i, 14);
+                let value = e.value;
+                best = better(m, i, value, subpath, best, work);
+                cursor = e.next;
+                left -= 1;
+            }
+        }
+    }
+    best
+}
+
+// The key that a failure names.
+pub enum Key {
+    Dot,
+    Subpath,
+    // a key of the manifest, by its place
+    At(usize),
+}
+
+// How an exports field was resolved: as an answer, with the key that led to the target and the part of the subpath that matched.
+pub struct Resolved {
+    pub context: Context,
+    pub path: PathBuf,
+    pub outcome: Outcome,
+    pub key: Key,
+    pub matched: Match,
+}
+
+fn with_key(a: Answer, key: Key, matched: Match) -> Resolved
+    ensures { λ r. ⌜ r ≡ withKey a key matched ⌝ }
+{
+    let context = a.context;
+    let path = a.path;
+    let outcome = a.outcome;
+    Resolved {
+        context,
+        path,
+        outcome,
+        key,
+        matched,
+    }
+}
+
+// An end that speaks of the subpath.
+fn unresolved(c: Context, outcome: Outcome) -> Resolved
+    ensures { λ r. ⌜ (r .context ≡ c) × (r .outcome ≡ outcome) × (r .key ≡ Key.Subpath) ⌝ }
+{
+    Resolved {
+        context: c,
+        path: PathBuf::new(),
+        outcome,
+        key: Key::Subpath,
+        matched: Match::Nothing,
+    }
+}
+
+// The value of the literal key: a match key with a star is none.
+fn literal_at(m: &[u8], at: usize, match_key: &[u8]) -> Found
+    ensures { λ r. ⌜ ((ms : Members) → Stands (now (m .entry)) 15 at (obj ms) → Finds (now (m .entry)) 14 (literal (now («match_key» .entry)) (entries ms)) r) ⌝ }
+{
+    if text::contains(match_key, b'*') {
+        return Found::Nothing;
+    }
+    package_json::get(m, at, 14, match_key)
+}
+
+fn form_of(starred: bool) -> Form
+    ensures { λ r. ⌜ r ≡ formOf starred ⌝ }
+{
+    if starred {
+        return Form::Starred;
+    }
+    Form::Folder
+}
+
+// The target of the best pattern key.
+fn pattern_resolve(
+    m: &[u8],
+    at: usize,
+    settings: &[u8],
+    url: &[u8],
+    match_key: &[u8],
+    c: Context,
+    work: &mut [u8],
+) -> Resolved
+    requires { ⌜ 1024 ≤ length (now work) ⌝ }
+    ensures { λ r. ⌜ ((ms : Members) → Stands (now (m .entry)) 15 at (obj ms) → resolvedOf (now (m .entry)) (now (url .entry)) (now («match_key» .entry)) r ≡ bestResolve (now (url .entry)) (textsOf (now (settings .entry)) 0) (now («match_key» .entry)) (bestOf (now («match_key» .entry)) none (entries ms)) (contextOf c)) ⌝ }
+{
+    let best = best_key(m, at, match_key, work);
+    let found = best.found;
+    if !found {
+        return unresolved(c, Outcome::Nothing);
+    }
+    let value = best.value;
+    let key = best.key;
+    let start = best.start;
+    let len = best.len;
+    let rank = best.rank;
+    let form = form_of(rank.starred);
+    let a = package_target_resolve(
+        m,
+        value,
+        14,
+        settings,
+        url,
+        form,
+        part(match_key, start, len),
+        c,
+        work,
+    );
+    with_key(a, Key::At(key), Match::Part { start, len })
+}
+
+fn package_imports_exports_resolve(
+    m: &[u8],
+    at: usize,
+    settings: &[u8],
+    url: &[u8],
+    match_key: &[u8],
+    c: Context,
+    work: &mut [u8],
+) -> Resolved
+    requires { ⌜ 1024 ≤ length (now work) ⌝ }
+    ensures { λ r. ⌜ ((ms : Members) → Stands (now (m .entry)) 15 at (obj ms) → resolvedOf (now (m .entry)) (now (url .entry)) (now («match_key» .entry)) r ≡ PACKAGE-IMPORTS-EXPORTS-RESOLVE (now (url .entry)) (textsOf (now (settings .entry)) 0) (now («match_key» .entry)) (entries ms) (contextOf c)) ⌝ }
+{
+    if text::ends_with(match_key, b"/") {
+        return unresolved(c, Outcome::Nothing);
+    }
+    let literal = literal_at(m, at, match_key);
+    match literal {
+        Found::Nothing => pattern_resolve(m, at, settings, url, match_key, c, work),
+        Found::At(i) => {
+            let a = package_target_resolve(
+                m,
+                i,
+                14,
+                settings,
+                url,
+                Form::Plain,
+                match_key,
+                c,
+                work,
+            );
+            with_key(a, Key::Subpath, Match::Nothing)
+        }
+    }
+}
+
+// What the keys leave over: the path is not exported.
+fn keys_resolve(
+    m: &[u8],
+    at: usize,
+    settings: &[u8],
+    url: &[u8],
+    subpath: &[u8],
+    c: Context,
+    work: &mut [u8],
+) -> Resolved
+    requires { ⌜ 1024 ≤ length (now work) ⌝ }
+    ensures { λ r. ⌜ ((ms : Members) → Stands (now (m .entry)) 15 at (obj ms) → resolvedOf (now (m .entry)) (now (url .entry)) (now (subpath .entry)) r ≡ keysOrNot (now (url .entry)) (textsOf (now (settings .entry)) 0) (now (subpath .entry)) (obj ms) (contextOf c)) ⌝ }
+{
+    let r = package_imports_exports_resolve(m, at, settings, url, subpath, c, work);
+    let outcome = r.outcome;
+    let nothing = is_nothing(outcome);
+    if !nothing {
+        return r;
+    }
+    let context = r.context;
+    unresolved(context, Outcome::NotExported)
+}
+
+// The main export of an object, in which some key is a subpath's or none.
+fn main_resolve(
+    m: &[u8],
+    at: usize,
+    subpaths: bool,
+    settings: &[u8],
+    url: &[u8],
+    work: &mut [u8],
+) -> Answer
+    requires { ⌜ 1024 ≤ length (now work) ⌝ }
+    ensures { λ r. ⌜ ((ms : Members) → Stands (now (m .entry)) 15 at (obj ms) → subpaths ≡ anyKey isSubpathKey (entries ms) → answerOf (dotRequest (now (url .entry)) (textsOf (now (settings .entry)) 0)) r ≡ mainResolve (now (url .entry)) (textsOf (now (settings .entry)) 0) (mainExport (obj ms)) fresh) ⌝ }
+{
+    let dot = package_json::get(m, at, 14, b".");
+    match dot {
+        Found::At(i) => package_target_resolve(
+            m,
+            i,
+            14,
+            settings,
+            url,
+            Form::Plain,
+            url,
+            Context::new(),
+            work,
+        ),
+        Found::Nothing => {
+            if subpaths {
+                return without_path(Context::new(), Outcome::Nothing);
+            }
+            package_target_resolve(
+                m,
+                at,
+                15,
+                settings,
+                url,
+                Form::Plain,
+                url,
+                Context::new(),
+                work,
+            )
+        }
+    }
+}
+
+fn is_mixed(keys: KeyMarks) -> bool
+    ensures { λ r. ⌜ r ≡ (keys .dot && keys .other) ⌝ }
+{
+    if keys.dot {
+        return keys.other;
+    }
+    false
+}
+
+fn object_resolve(
+    m: &[u8],
+    at: usize,
+    settings: &[u8],
+    url: &[u8],
+    subpath: &[u8],
+    work: &mut [u8],
+) -> Resolved
+    requires { ⌜ 1024 ≤ length (now work) ⌝ }
+    ensures { λ r. ⌜ ((ms : Members) → Stands (now (m .entry)) 15 at (obj ms) → resolvedOf (now (m .entry)) (now (url .entry)) (now (subpath .entry)) r ≡ PACKAGE-EXPORTS-RESOLVE (now (url .entry)) (textsOf (now (settings .entry)) 0) (now (subpath .entry)) (obj ms) fresh) ⌝ }
+{
+    let keys = keys_of(m, at, work);
+    let mixed = is_mixed(keys);
+    if mixed {
+        return unresolved(Context::new(), Outcome::ConfigMixed);
+    }
+    if !text::equal(subpath, b".") {
+        return keys_resolve(m, at, settings, url, subpath, Context::new(), work);
+    }
+    let subpaths = keys.subpath;
+    let a = main_resolve(m, at, subpaths, settings, url, work);
+    let outcome = a.outcome;
+    let nothing = is_nothing(outcome);
+    if !nothing {
+        return with_key(a, Key::Dot, Match::Nothing);
+    }
+    let context = a.context;
+    keys_resolve(m, at, settings, url, subpath, context, work)
+}
+
+// A string or an array: the main export, and no other.
+fn whole_resolve(
+    m: &[u8],
+    at: usize,
+    settings: &[u8],
+    url: &[u8],
+    subpath: &[u8],
+    work: &mut [u8],
+) -> Resolved
+    requires { ⌜ 1024 ≤ length (now work) ⌝ }
+    ensures { λ r. ⌜ ((j : Json) → IsWhole j → Stands (now (m .entry)) 15 at j → resolvedOf (now (m .entry)) (now (url .entry)) (now (subpath .entry)) r ≡ PACKAGE-EXPORTS-RESOLVE (now (url .entry)) (textsOf (now (settings .entry)) 0) (now (subpath .entry)) j fresh) ⌝ }
+{
+    if !text::equal(subpath, b".") {
+        return unresolved(Context::new(), Outcome::NotExported);
+    }
+    let a = package_target_resolve(
+        m,
+        at,
+        15,
+        settings,
+        url,
+        Form::Plain,
+        url,
+        Context::new(),
+        work,
+    );
+    let outcome = a.outcome;
+    let nothing = is_nothing(outcome);
+    if !nothing {
+        return with_key(a, Key::Dot, Match::Nothing);
+    }
+    let context = a.context;
+    unresolved(context, Outcome::NotExported)
+}
+
+// The exports field whose value stands at a place of the manifest m, for the package directory `url` and a subpath. The work buffer ends with any
+// bytes and its old length. Where no value stands there, or the buffer has fewer than 1,024 bytes, the answer is free.
+pub fn package_exports_resolve(
+    m: &[u8],
+    at: usize,
+    settings: &[u8],
+    url: &[u8],
+    subpath: &[u8],
+    work: &mut [u8],
+) -> Resolved
+    ensures { λ r. ⌜ ((j : Json) → 1024 ≤ length (now (work .entry)) → Stands (now (m .entry)) 15 at j → resolvedOf (now (m .entry)) (now (url .entry)) (now (subpath .entry)) r ≡ PACKAGE-EXPORTS-RESOLVE (now (url .entry)) (settingsOf (now (settings .entry)) .conditions) (now (subpath .entry)) j fresh) ⌝ }
+    ensures { λ r. ⌜ length (now (work .exit)) ≡ length (now (work .entry)) ⌝ }
+{
+    if work.len() < 1024 {
+        return unresolved(Context::new(), Outcome::NotExported);
+    }
+    let kind = package_json::kind_at(m, at);
+    match kind {
+        Kind::Scalar => unresolved(Context::new(), Outcome::NotExported),
+        Kind::String => whole_resolve(m, at, settings, url, subpath, work),
+        Kind::Array => whole_resolve(m, at, settings, url, subpath, work),
+        Kind::Object => object_resolve(m, at, settings, url, subpath, work),
     }
 }
