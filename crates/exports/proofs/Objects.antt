@@ -91,9 +91,9 @@ module _ {m : List ℕ} {ms : Members} {n : ℕ} {cursor : Cursor} {keys : KeyMa
         others = t .others;
         from = both-that m n (g .others) cursor (g .from) e v next f .1;
         same =
-          g .same ∙ ap (λ x. joinedKeys keys (keysOf (entries x))) (t .is) ∙ ap (joinedKeys keys) (keys-more (t .name) (t .val) (t .others))
-          ∙ joined-assoc keys (aKey (t .name)) (keysOf (entries (t .others)))
-          ∙ ap (λ x. joinedKeys x (keysOf (entries (t .others)))) (sym (q ∙ ap (joinedKeys keys) a));
+            g .same ∙ ap (λ x. joinedKeys keys (keysOf (entries x))) (t .is) ∙ ap (joinedKeys keys) (keys-more (t .name) (t .val) (t .others))
+            ∙ joined-assoc keys (aKey (t .name)) (keysOf (entries (t .others)))
+            ∙ ap (λ x. joinedKeys x (keysOf (entries (t .others)))) (sym (q ∙ ap (joinedKeys keys) a));
       }
 
 -- the best key

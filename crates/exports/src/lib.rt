@@ -1,8 +1,8 @@
 // The exports algorithms of the Node.js documents, as lib.rs has them.
-use path::PathBuf;
 use package_json::Cursor;
 use package_json::Found;
 use package_json::Kind;
+use path::PathBuf;
 use specifier::Specifier;
 ghost use mathlib.Core.Path.{_≡_};
 ghost use mathlib.Core.List.{List, [], _++_};
