@@ -19,6 +19,45 @@ use Rattle.definition.specs.Settings.{passes24}
 use Rattle.definition.specs.Manifest.{manifestBeyond, nameTwice, pathTooLong, refusalNumber, failed, refused, End, found, stopped, endNumber, endTexts, isAnswer}
 use Rattle.definition.specs.Called.{Question, endOf, listOf, Rooms, Left, check, refusalOf, padded, joined, paths, listNumbers, zeros, written, delivered, unlessRefused, called}
 
+-- WHEN A CALL REFUSES, AND WITH WHICH NUMBER: the tests in 01's order, and behind the lookup 20 and 21
+pub data Reached (q : Question) (m : Rooms) : ℕ → Type 0 where
+  shortWork : leb 32768 (m .work) ≡ false → Reached q m 25
+  badSettings : leb 32768 (m .work) ≡ true → passes24 (q .settings) ≡ false → Reached q m 24
+  badSizes : leb 32768 (m .work) ≡ true → passes24 (q .settings) ≡ true → passes30 (q .listing) ≡ false → Reached q m 30
+  badPaths : leb 32768 (m .work) ≡ true → passes24 (q .settings) ≡ true → passes30 (q .listing) ≡ true → passes31 (q .listing) ≡ false → Reached q m 31
+  badManifests : leb 32768 (m .work) ≡ true → passes24 (q .settings) ≡ true → passes30 (q .listing) ≡ true → passes31 (q .listing) ≡ true → passes32 (q .listing) ≡ false → Reached q m 32
+  badSpecifier : leb 32768 (m .work) ≡ true → passes24 (q .settings) ≡ true → accepted (q .listing) ≡ true → isSpecifier (q .specifier) ≡ false → Reached q m 22
+  badStart : leb 32768 (m .work) ≡ true → passes24 (q .settings) ≡ true → accepted (q .listing) ≡ true → isSpecifier (q .specifier) ≡ true → isDirectoryOf (q .listing) (q .start) ≡ false → Reached q m 23
+  shortResult : refusalOf q m ≡ none → isAnswer (endOf q) ≡ true → m .result < length (joined (endTexts (endOf q))) → Reached q m 20
+  shortList : refusalOf q m ≡ none → isAnswer (endOf q) ≡ true → length (joined (endTexts (endOf q))) ≤ m .result
+      → (m .numbers < length (listNumbers (listOf q))) ⊎ (m .list < length (joined (paths (listOf q)))) → Reached q m 21
+
+either-short : (m : Rooms) (l : List Consult) → (m .numbers < length (listNumbers l)) ⊎ (m .list < length (joined (paths l))) → ltb (m .numbers) (length (listNumbers l)) || ltb (m .list) (length (joined (paths l))) ≡ true
+either-short m l (inl h) = rw (lt-ltb (m .numbers) (length (listNumbers l)) h)
+either-short m l (inr h) = rw (lt-ltb (m .list) (length (joined (paths l))) h) (either (ltb (m .numbers) (length (listNumbers l))))
+  where
+    either : (u : Bool) → u || true ≡ true
+    either true = refl
+    either false = refl
+
+listing-parts : (l : List ℕ) → accepted l ≡ true → ((passes30 l ≡ true) × (passes31 l ≡ true)) × (passes32 l ≡ true)
+unfolding accepted
+listing-parts l h = let a = and-true (passes30 l && passes31 l) (passes32 l) h in (and-true (passes30 l) (passes31 l) (a .0), a .1)
+
+pub refused-with : (q : Question) (m : Rooms) (n : ℕ) → Reached q m n → called q m ≡ zeros m n
+unfolding called refusalOf unlessRefused delivered
+refused-with q m n (shortWork a) = rw a
+refused-with q m n (badSettings a b) = rw (a, b)
+refused-with q m n (badSizes a b c) = rw (a, b, c)
+refused-with q m n (badPaths a b c d) = rw (a, b, c, d)
+refused-with q m n (badManifests a b c d e) = rw (a, b, c, d, e)
+refused-with q m n (badSpecifier a b l f) = let p = listing-parts (q .listing) l in rw (a, b, p .0 .0, p .0 .1, p .1, f)
+refused-with q m n (badStart a b l f g) = let p = listing-parts (q .listing) l in rw (a, b, p .0 .0, p .0 .1, p .1, f, g)
+refused-with q m n (shortResult r a h) = rw (r, a, lt-ltb (m .result) (length (joined (endTexts (endOf q)))) h)
+refused-with q m n (shortList r a h k) = rw (r, a, le-ltb (m .result) (length (joined (endTexts (endOf q)))) h, either-short m (listOf q) k)
+
+-- HOW EVERY CALL ENDS
+
 -- 01's answers; its refusals by the caller, by the maker of the listing, by the package author
 unfoldable pub isAnswerNumber : ℕ → Bool
 isAnswerNumber n = leb n 7
@@ -112,40 +151,3 @@ pub called-whole : (q : Question) (m : Rooms) → Ended m (endOf q) (listOf q) (
 unfolding called refusalOf
 called-whole q m =
     checks m (delivered m (endOf q) (listOf q)) (delivered-whole m (endOf q) (listOf q)) (leb 32768 (m .work)) (passes24 (q .settings)) (passes30 (q .listing)) (passes31 (q .listing)) (passes32 (q .listing)) (isSpecifier (q .specifier)) (isDirectoryOf (q .listing) (q .start))
-
--- WHEN A CALL REFUSES, AND WITH WHICH NUMBER: the tests in 01's order, and behind the lookup 20 and 21
-pub data Reached (q : Question) (m : Rooms) : ℕ → Type 0 where
-  shortWork : leb 32768 (m .work) ≡ false → Reached q m 25
-  badSettings : leb 32768 (m .work) ≡ true → passes24 (q .settings) ≡ false → Reached q m 24
-  badSizes : leb 32768 (m .work) ≡ true → passes24 (q .settings) ≡ true → passes30 (q .listing) ≡ false → Reached q m 30
-  badPaths : leb 32768 (m .work) ≡ true → passes24 (q .settings) ≡ true → passes30 (q .listing) ≡ true → passes31 (q .listing) ≡ false → Reached q m 31
-  badManifests : leb 32768 (m .work) ≡ true → passes24 (q .settings) ≡ true → passes30 (q .listing) ≡ true → passes31 (q .listing) ≡ true → passes32 (q .listing) ≡ false → Reached q m 32
-  badSpecifier : leb 32768 (m .work) ≡ true → passes24 (q .settings) ≡ true → accepted (q .listing) ≡ true → isSpecifier (q .specifier) ≡ false → Reached q m 22
-  badStart : leb 32768 (m .work) ≡ true → passes24 (q .settings) ≡ true → accepted (q .listing) ≡ true → isSpecifier (q .specifier) ≡ true → isDirectoryOf (q .listing) (q .start) ≡ false → Reached q m 23
-  shortResult : refusalOf q m ≡ none → isAnswer (endOf q) ≡ true → m .result < length (joined (endTexts (endOf q))) → Reached q m 20
-  shortList : refusalOf q m ≡ none → isAnswer (endOf q) ≡ true → length (joined (endTexts (endOf q))) ≤ m .result
-      → (m .numbers < length (listNumbers (listOf q))) ⊎ (m .list < length (joined (paths (listOf q)))) → Reached q m 21
-
-either-short : (m : Rooms) (l : List Consult) → (m .numbers < length (listNumbers l)) ⊎ (m .list < length (joined (paths l))) → ltb (m .numbers) (length (listNumbers l)) || ltb (m .list) (length (joined (paths l))) ≡ true
-either-short m l (inl h) = rw (lt-ltb (m .numbers) (length (listNumbers l)) h)
-either-short m l (inr h) = rw (lt-ltb (m .list) (length (joined (paths l))) h) (either (ltb (m .numbers) (length (listNumbers l))))
-  where
-    either : (u : Bool) → u || true ≡ true
-    either true = refl
-    either false = refl
-
-listing-parts : (l : List ℕ) → accepted l ≡ true → ((passes30 l ≡ true) × (passes31 l ≡ true)) × (passes32 l ≡ true)
-unfolding accepted
-listing-parts l h = let a = and-true (passes30 l && passes31 l) (passes32 l) h in (and-true (passes30 l) (passes31 l) (a .0), a .1)
-
-pub refused-with : (q : Question) (m : Rooms) (n : ℕ) → Reached q m n → called q m ≡ zeros m n
-unfolding called refusalOf unlessRefused delivered
-refused-with q m n (shortWork a) = rw a
-refused-with q m n (badSettings a b) = rw (a, b)
-refused-with q m n (badSizes a b c) = rw (a, b, c)
-refused-with q m n (badPaths a b c d) = rw (a, b, c, d)
-refused-with q m n (badManifests a b c d e) = rw (a, b, c, d, e)
-refused-with q m n (badSpecifier a b l f) = let p = listing-parts (q .listing) l in rw (a, b, p .0 .0, p .0 .1, p .1, f)
-refused-with q m n (badStart a b l f g) = let p = listing-parts (q .listing) l in rw (a, b, p .0 .0, p .0 .1, p .1, f, g)
-refused-with q m n (shortResult r a h) = rw (r, a, lt-ltb (m .result) (length (joined (endTexts (endOf q)))) h)
-refused-with q m n (shortList r a h k) = rw (r, a, le-ltb (m .result) (length (joined (endTexts (endOf q)))) h, either-short m (listOf q) k)

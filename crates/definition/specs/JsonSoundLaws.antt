@@ -1,56 +1,18 @@
 -- SOUND: what the reader of values accepts is in the grammar and within the limits, with the value that it gives.
 use mathlib.Core.Path.{_≡_, refl, sym, _∙_, ap, subst}
-use Prim.Native.Nat.{ℕ, zero, suc, _+_, _-_, _≤_, _<_}
+use Prim.Native.Nat.{ℕ, zero, suc, _≤_}
 use native.Mathlib.Omega.{arith}
-use mathlib.Core.Bool.{Bool, true, false, not, _&&_, _||_, true≢false, false≢true}
+use mathlib.Core.Bool.{Bool, true, false, _||_, true≢false}
 use mathlib.Core.List.{List, [], _∷_, _++_, append-assoc}
-use Prim.Native.Char.{code}
 use lib.ListN.{length}
 use lib.Dec.{eqb}
 use borrow.Author.Tests.{eqb-true}
 use Rattle.definition.specs.Text.{Text, text, if_then_else_, skipWhile, equal, isOneOf}
 use Rattle.definition.specs.TextLaws.{equal-true, equal-refl}
-use Rattle.definition.specs.Json.{
-  Json,
-  scalar,
-  str,
-  arr,
-  obj,
-  Elements,
-  noElement,
-  element,
-  Members,
-  noMember,
-  member,
-  Read,
-  got,
-  Fault,
-  malformed,
-  beyond,
-  twice,
-  fault,
-  andThen,
-  isSpace,
-  skipSpace,
-  word,
-  integer,
-  between,
-  string,
-  quoted,
-  startsValue,
-  follow,
-  elements,
-  memberName,
-  colon,
-  members,
-  array,
-  object,
-  valueBy,
-  value,
-}
+use Rattle.definition.specs.Json.{Json, scalar, str, arr, obj, Elements, noElement, element, Members, noMember, member, Read, got, malformed, beyond, twice, fault, andThen, isSpace, skipSpace, word, string, quoted, startsValue, follow, elements, memberName, colon, members, array, object, valueBy, value}
 use Rattle.definition.specs.Local.{no-got, Both, andThen-both}
 use Rattle.definition.specs.JsonLocal.{or-elim}
-use Rattle.definition.specs.JsonEndLaws.{Cut, cut-then, spaces-of, opens, closes}
+use Rattle.definition.specs.JsonEndLaws.{Cut, cut-then, opens, closes}
 use Rattle.definition.specs.JsonStringLaws.{by-test, Quoted, chars-sound}
 use Rattle.definition.specs.JsonNumberLaws.{Numbered, integer-sound}
 use Rattle.definition.specs.JsonGrammar as G
@@ -139,7 +101,7 @@ distinct-new names (once {k = k} {j = j} {ms = ms} x d) a = new-name (by-test (i
     apart i e = or-elim (equal k i) (isOneOf names i) e (λ h. subst (λ z. Absent z ms) (equal-true k i h) x) (λ h. inner i (a i h))
 
 -- words
-word-sound : (w s : Text) (j : Json) (r : Text) → word w s ≡ got j r → (s ≡ w ++ r) × (scalar ≡ j)
+pub word-sound : (w s : Text) (j : Json) (r : Text) → word w s ≡ got j r → (s ≡ w ++ r) × (scalar ≡ j)
 unfolding word
 word-sound [] s j r e = (cc, cc)
 word-sound (c ∷ w) [] j r e = no-got e
@@ -176,11 +138,11 @@ pub record ValueRead (d : ℕ) (s : Text) (j : Json) (r : Text) : Type 0 where
   pub within : Within d j
 
 -- behind an element or a member: a comma and more, or the closing bracket
-data Followed {A : Type 0} (bracket : ℕ) (end : A) (more : Text → Read A) (s : Text) (a : A) (r : Text) : Type 0 where
+pub data Followed {A : Type 0} (bracket : ℕ) (end : A) (more : Text → Read A) (s : Text) (a : A) (r : Text) : Type 0 where
   at-comma : (u : Text) → skipSpace s ≡ 44 ∷ u → more (skipSpace u) ≡ got a r → Followed bracket end more s a r
   at-bracket : skipSpace s ≡ bracket ∷ r → end ≡ a → Followed bracket end more s a r
 
-follow-sound : {A : Type 0} (bracket : ℕ) (end : A) (more : Text → Read A) (s : Text) (a : A) (r : Text)
+pub follow-sound : {A : Type 0} (bracket : ℕ) (end : A) (more : Text → Read A) (s : Text) (a : A) (r : Text)
     → follow bracket end more (skipSpace s) ≡ got a r → Followed bracket end more s a r
 unfolding follow
 follow-sound {A} bracket end more s a r e = go (skipSpace s) refl e

@@ -5,6 +5,7 @@ pub mod Specifier
 pub mod Listing
 pub mod Settings
 pub mod Json
+pub mod JsonAt
 pub mod JsonGrammar
 pub mod Exports
 pub mod Ask
@@ -14,7 +15,7 @@ pub mod Called
 pub mod Reordered
 -- Examples, by computation: a wrong definition is met here first
 pub mod AnswersMarked
-pub mod JsonExamples
+pub mod AnswersJson
 pub mod AnswersLimits
 pub mod AnswersLookup
 pub mod ReorderedExample
@@ -47,6 +48,8 @@ pub mod JsonNumberLaws
 pub mod JsonSoundLaws
 pub mod JsonCompleteLaws
 pub mod JsonGrammarLaws
+pub mod JsonSkipLaws
+pub mod JsonAtLaws
 pub mod Layout
 pub mod Laid
 pub mod SameMapLaws

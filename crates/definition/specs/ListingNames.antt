@@ -2,14 +2,14 @@
 use mathlib.Core.Path.{_≡_, refl, sym, _∙_, ap}
 use Prim.Native.Nat.{ℕ, zero, suc, _+_, _-_, _≤_, _<_, max}
 use mathlib.Core.Bool.{Bool, true, false, not, _&&_, _||_, true≢false, false≢true, and-false}
-use mathlib.Core.List.{List, [], _∷_, _++_}
+use mathlib.Core.List.{[], _∷_, _++_}
 use native.Mathlib.Omega.{arith}
 use borrow.Author.Tests.{eqb-true, eq-eqb, ne-eqb, lt-ltb}
-use lib.Dec.{eqb, leb, ltb}
+use lib.Dec.{eqb}
 use lib.ListN.{length, drop, take, getD, length-append, length-drop, drop-of-length-le}
 use lib.Seq.{length-take-le, take-suc, take-all, drop-cons, split-at as cut-at}
 use native.Mathlib.Numerals.{add-one}
-use Rattle.definition.specs.Text.{Text, text, if_then_else_, slash, equal, startsWith, contains, count, before, beforeLast, split, all, due, isUtf8, isUtf8From, dueAfter}
+use Rattle.definition.specs.Text.{Text, text, slash, equal, startsWith, contains, count, before, beforeLast, split, all, due, isUtf8, isUtf8From, dueAfter}
 use Rattle.definition.specs.TextLaws.{and-true, equal-refl, equal-true}
 use Rattle.definition.specs.TextSteps.{equal-lengths, before-inside, contains-not, last-at}
 use Rattle.definition.specs.Path.{parent, depth, nameOf}
@@ -202,7 +202,7 @@ cut-count : (q : Text) (s : ℕ) → LastAt slash q s → count slash q ≡ suc 
 cut-count q s h =
     ap (count slash) (cut-text q s h) ∙ count-append slash (take s q) (slash ∷ drop (suc s) q) ∙ (unfold count in omega (arith, count-none slash (drop (suc s) q) (h .none-after)))
 
-pub cut-root : (q : Text) (s : ℕ) → LastAt slash q s → s ≡ 0 → 1 < length q → Cut q s 1
+cut-root : (q : Text) (s : ℕ) → LastAt slash q s → s ≡ 0 → 1 < length q → Cut q s 1
 unfolding depth
 cut-root q s h z two = rw z (record {
   parent = parent-root q s (h .inside) (h .there) (h .front) z g;
@@ -221,7 +221,7 @@ cut-root q s h z two = rw z (record {
     f : take 1 q ≡ text "/"
     f = take-suc q 0 0 (omega arith) ∙ rw g
 
-pub cut-deep : (q : Text) (s : ℕ) → LastAt slash q s → 1 < s → Cut q s s
+cut-deep : (q : Text) (s : ℕ) → LastAt slash q s → 1 < s → Cut q s s
 unfolding depth
 cut-deep q s h two = record {
   parent = rw d at (parent-some q s (h .inside) (h .there) (h .front) (λ z. omega arith));

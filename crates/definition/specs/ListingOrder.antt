@@ -1,21 +1,21 @@
 -- A rising list of entries, and the marks of the prefixes of one path that are directory entries: what one pass over the listing
 -- uses to test order and parents.
 use mathlib.Core.Path.{_≡_, refl, sym, _∙_, ap}
-use Prim.Native.Nat.{ℕ, zero, suc, _+_, _-_, _≤_, _<_, max}
+use Prim.Native.Nat.{ℕ, zero, suc, _+_, _-_, _*_, _≤_, _<_, max}
 use mathlib.Core.Bool.{Bool, true, false, not, _&&_, _||_, true≢false, false≢true, and-false, or-true}
 use mathlib.Core.List.{List, [], _∷_}
 use mathlib.Core.Logic.{_⊎_, inl, inr}
 use native.Mathlib.Omega.{arith}
-use borrow.Author.Tests.{eqb-true, eq-eqb, ne-eqb, lt-ltb, ltb-true, le-leb, lt-leb, leb-true}
+use borrow.Author.Tests.{eqb-true, eq-eqb, ne-eqb, lt-ltb, le-ltb, ltb-true, le-leb, lt-leb, leb-true}
 use lib.Dec.{eqb, leb, ltb}
 use lib.ListN.{length, drop, take, getD, set, length-set, replicate, length-replicate}
 use lib.Seq.{length-take-le, take-length, getD-take, take-take, take-all, getD-set-same, getD-set-other}
 use Rattle.definition.specs.Text.{Text, text, if_then_else_, slash, equal, smaller, count, all}
 use Rattle.definition.specs.TextLaws.{and-true, equal-true, equal-refl}
-use Rattle.definition.specs.TextSteps.{equal-lengths, smaller-start, smaller-here}
+use Rattle.definition.specs.TextSteps.{equal-lengths, smaller-start, smaller-here, take-more}
 use Rattle.definition.specs.Path.{depth}
-use Rattle.definition.specs.Listing.{noEntry, Row, rows, rowFits, sizesFit, firstIsRoot, passes30, passes31, rising, isManifest, isPath, entryIn, entryOf, isDirectoryEntry, parentIsDirectory, listing-computes}
-use Rattle.definition.specs.ListingSteps.{at-or-under, row, risingAfter, rising-after, after-next, after-end, all-next, all-end, all-both, entry-hit, entry-miss}
+use Rattle.definition.specs.Listing.{number32, noEntry, Row, rows, rowFits, sizesFit, firstIsRoot, passes30, passes31, rising, isManifest, isPath, entryIn, entryOf, isDirectoryEntry, parentIsDirectory, listing-computes}
+use Rattle.definition.specs.ListingSteps.{number-at, at-or-under, row, risingAfter, rising-after, after-next, after-end, all-next, all-end, all-both, entry-hit, entry-miss}
 use Rattle.definition.specs.ListingNames.{isName, Cut, cut-of}
 use Rattle.definition.specs.PathSteps.{LastAt}
 
@@ -38,7 +38,7 @@ rest-below x y b e h = rw (eq-eqb x y e, h) (go (ltb x y))
     go true = refl
     go false = refl
 
-pub smaller-trans : (a b c : List ℕ) → smaller a b ≡ true → smaller b c ≡ true → smaller a c ≡ true
+smaller-trans : (a b c : List ℕ) → smaller a b ≡ true → smaller b c ≡ true → smaller a c ≡ true
 unfolding smaller
 smaller-trans a [] c p q = absurd (none a p)
   where
@@ -64,7 +64,7 @@ smaller-self (x ∷ a) h = go (below-cases x x _ h) (smaller-self a)
     go (inl k) ih = omega arith
     go (inr k) ih = ih (k .1)
 
-pub smaller-unequal : (a b : List ℕ) → smaller a b ≡ true → (equal a b ≡ false) × (equal b a ≡ false)
+smaller-unequal : (a b : List ℕ) → smaller a b ≡ true → (equal a b ≡ false) × (equal b a ≡ false)
 smaller-unequal a b h = (go (equal a b) refl, go′ (equal b a) refl)
   where
     go : (t : Bool) → equal a b ≡ t → equal a b ≡ false
@@ -75,7 +75,7 @@ smaller-unequal a b h = (go (equal a b) refl, go′ (equal b a) refl)
     go′ false e = e
     go′ true e = absurd (smaller-self a (rw (equal-true b a e) at h))
 
-pub smaller-prefix : (q : List ℕ) (k : ℕ) → k < length q → smaller (take k q) q ≡ true
+smaller-prefix : (q : List ℕ) (k : ℕ) → k < length q → smaller (take k q) q ≡ true
 unfolding smaller
 smaller-prefix [] k h = let z : ⊥ = omega arith in absurd z
 smaller-prefix (x ∷ q) zero h = refl
@@ -89,12 +89,51 @@ abbrev tail-of : List ℕ → List ℕ
 tail-of [] = []
 tail-of (x ∷ s) = s
 
-pub smaller-from : (j : ℕ) (a b : List ℕ) → take j a ≡ take j b → j ≤ length a → j ≤ length b → smaller (drop j a) (drop j b) ≡ true → smaller a b ≡ true
+-- what two texts share does not decide their order
+pub smaller-shared : (j : ℕ) (a b : List ℕ) → take j a ≡ take j b → j ≤ length a → j ≤ length b → smaller (drop j a) (drop j b) ≡ smaller a b
 unfolding smaller
-smaller-from zero a b e h k s = s
-smaller-from (suc j) [] b e h k s = let z : ⊥ = omega arith in absurd z
-smaller-from (suc j) (x ∷ a) [] e h k s = let z : ⊥ = omega arith in absurd z
-smaller-from (suc j) (x ∷ a) (y ∷ b) e h k s = rest-below x y _ (ap head-of e) (smaller-from j a b (ap tail-of e) (omega arith) (omega arith) s)
+smaller-shared zero a b e h k = refl
+smaller-shared (suc j) [] b e h k = let z : ⊥ = omega arith in absurd z
+smaller-shared (suc j) (x ∷ a) [] e h k = let z : ⊥ = omega arith in absurd z
+smaller-shared (suc j) (x ∷ a) (y ∷ b) e h k =
+    let p : x ≡ y = ap head-of e in
+    let q : y ≤ x = omega arith in
+    rw (le-ltb x y q, eq-eqb x y p) (smaller-shared j a b (ap tail-of e) (omega arith) (omega arith))
+
+smaller-from : (j : ℕ) (a b : List ℕ) → take j a ≡ take j b → j ≤ length a → j ≤ length b → smaller (drop j a) (drop j b) ≡ true → smaller a b ≡ true
+smaller-from j a b e h k s = sym (smaller-shared j a b e h k) ∙ s
+
+-- four bytes at once
+pub record Shared (p q : List ℕ) (i : ℕ) : Type 0 where
+  pub left : i ≤ length p
+  pub right : i ≤ length q
+  pub same : take i p ≡ take i q
+
+pub shared-start : (p q : List ℕ) → Shared p q 0
+shared-start p q = record { left = omega arith; right = omega arith; same = refl }
+
+module _ (p q : List ℕ) (i : ℕ) (h : i + 4 ≤ length p) (k : i + 4 ≤ length q) (b : (n : ℕ) → getD p n 0 < 256) (c : (n : ℕ) → getD q n 0 < 256) (e : number32 (drop i p) ≡ number32 (drop i q)) where
+  four : (n : ℕ) → n < 4 → getD p (i + n) 0 ≡ getD q (i + n) 0
+  four n m = go n m
+    where
+      v : getD p i 0 + 256 * (getD p (i + 1) 0 + 256 * (getD p (i + 2) 0 + 256 * getD p (i + 3) 0)) ≡ getD q i 0 + 256 * (getD q (i + 1) 0 + 256 * (getD q (i + 2) 0 + 256 * getD q (i + 3) 0))
+      v = sym (number-at p i) ∙ e ∙ number-at q i
+
+      go : (n : ℕ) → n < 4 → getD p (i + n) 0 ≡ getD q (i + n) 0
+      go zero m = let z : i + 0 ≡ i = omega arith in rw z (omega (arith, v, b i, c i, b (i + 1), c (i + 1), b (i + 2), c (i + 2), b (i + 3), c (i + 3)))
+      go (suc zero) m = omega (arith, v, b i, c i, b (i + 1), c (i + 1), b (i + 2), c (i + 2), b (i + 3), c (i + 3))
+      go (suc (suc zero)) m = omega (arith, v, b i, c i, b (i + 1), c (i + 1), b (i + 2), c (i + 2), b (i + 3), c (i + 3))
+      go (suc (suc (suc zero))) m = omega (arith, v, b i, c i, b (i + 1), c (i + 1), b (i + 2), c (i + 2), b (i + 3), c (i + 3))
+      go (suc (suc (suc (suc n)))) m = let z : ⊥ = omega arith in absurd z
+
+  pub shared-next : Shared p q i → Shared p q (i + 4)
+  shared-next s = record { left = h; right = k; same = upto 4 (omega arith) }
+    where
+      upto : (n : ℕ) → n ≤ 4 → take (i + n) p ≡ take (i + n) q
+      upto zero m = let z : i + 0 ≡ i = omega arith in rw z (s .same)
+      upto (suc n) m =
+          let z : i + suc n ≡ i + n + 1 = omega arith in
+          rw z (take-more p q (i + n) (omega arith) (omega arith) (upto n (omega arith)) (four n (omega arith)))
 
 -- q is larger than p, and they part at j
 pub record Rise (p q : List ℕ) (j : ℕ) : Type 0 where
@@ -244,7 +283,7 @@ module _ (rs : List Row) (p : Text) (m : List ℕ) (q : Text) (d : Bool) (s : Li
   pub going-no-path : isPath q ≡ false → inOrder rs ≡ false
   going-no-path h = path-wrong rs (sym (g .paths) ∙ all-next pathRow c h)
 
-  pub going-deep : shallow (row q d s) ≡ false → inOrder rs ≡ false
+  going-deep : shallow (row q d s) ≡ false → inOrder rs ≡ false
   going-deep h = depth-wrong rs (sym (g .depths) ∙ all-next shallow c h)
 
   going-orphan : (rising rs ≡ true → parentIsDirectory rs (row q d s) ≡ false) → inOrder rs ≡ false
@@ -468,7 +507,7 @@ cleared-marked j i n k v m m′ g a b c h = record {
 }
 
 -- the marks at the start
-abbrev pub noMarks : ℕ → List ℕ
+abbrev noMarks : ℕ → List ℕ
 noMarks n = replicate n 0
 
 zeros : (n i : ℕ) → getD (noMarks n) i 0 ≡ 0

@@ -1,20 +1,18 @@
 -- The listing at a place: what a loop over its bytes uses, with the entry's index i and the offset of its path.
 use mathlib.Core.Path.{_≡_, refl, sym, _∙_, ap}
-use mathlib.Core.Bool.{Bool, true, false, not, _&&_, _||_}
+use mathlib.Core.Bool.{Bool, true, false, _&&_}
 use mathlib.Core.List.{List, [], _∷_}
-use Prim.Native.Nat.{ℕ, zero, suc, _+_, _-_, _*_, _≤_, _<_, min}
+use Prim.Native.Nat.{ℕ, suc, _+_, _-_, _*_, _≤_, _<_, min}
 use native.Mathlib.Omega.{arith}
 use lib.ListN.{length, drop, take, getD, length-drop, length-take, drop-of-length-le}
 use Rattle.definition.specs.TextLaws.{and-true, equal-true}
 use lib.Seq.{drop-drop, getD-drop, take-all, take-nil}
 use lib.Dec.{eqb, leb}
-use Rattle.definition.specs.Listing.{Entry, noEntry}
-use Rattle.definition.specs.Text.{Text, text, equal, if_then_else_, smaller, startsWith, contains, split, slash, all, isUtf8, count}
+use Rattle.definition.specs.Listing.{noEntry, number32, entryCount, directoryMark, contentsLength, lengthsFrom, Row, rowsFrom, rows, entryOf, entryIn, entryAt, rising, firstIsRoot, sizesFit, textLength}
+use Rattle.definition.specs.Text.{Text, text, equal, smaller, all}
 use borrow.Author.Tests.{leb-true, leb-false, le-leb, lt-leb, eqb-true}
 use Rattle.definition.specs.TextSteps.{equal-lengths}
 use mathlib.Core.Logic.{_⊎_, inl, inr}
-use Rattle.definition.specs.Path.{parent}
-use Rattle.definition.specs.Listing.{number32, entryCount, directoryMark, contentsLength, lengthsFrom, Row, rowsFrom, rows, entryOf, entryIn, entryAt, rising, isComponent, isPath, isManifest, rowFits, parentIsDirectory, noDirectoryManifest, isDirectoryEntry, firstIsRoot, sizesFit, textLength, passes30, passes31, passes32}
 
 -- the two lengths of the i-th entry, and the entry whose path begins at the offset
 unfoldable pub pathLengthAt : List ℕ → ℕ → ℕ
@@ -23,21 +21,21 @@ pathLengthAt l i = number32 (drop (8 + 4 * i) l)
 unfoldable pub contentsMarkAt : List ℕ → ℕ → ℕ
 contentsMarkAt l i = number32 (drop (8 + 4 * entryCount l + 4 * i) l)
 
-unfoldable pub rowAt : List ℕ → ℕ → ℕ → Row
+unfoldable rowAt : List ℕ → ℕ → ℕ → Row
 rowAt l i at = record {
   path = take (pathLengthAt l i) (drop at l);
   isDirectory = eqb (contentsMarkAt l i) directoryMark;
   contents = take (contentsLength (contentsMarkAt l i)) (drop (pathLengthAt l i) (drop at l));
 }
 
-unfoldable pub nextAt : List ℕ → ℕ → ℕ → ℕ
+unfoldable nextAt : List ℕ → ℕ → ℕ → ℕ
 nextAt l i at = at + (pathLengthAt l i + contentsLength (contentsMarkAt l i))
 
 -- the entries from the i-th on
 unfoldable pub rowsAt : List ℕ → ℕ → ℕ → List Row
 rowsAt l i at = rowsFrom (entryCount l - i) (drop (8 + 4 * i) l) (drop (8 + 4 * entryCount l + 4 * i) l) (drop at l)
 
-pub rows-start : (l : List ℕ) → rows l ≡ rowsAt l 0 (8 + 8 * entryCount l)
+rows-start : (l : List ℕ) → rows l ≡ rowsAt l 0 (8 + 8 * entryCount l)
 unfolding rows rowsAt
 rows-start l =
     let n = entryCount l in
@@ -49,7 +47,7 @@ pub rows-end : (l : List ℕ) (i at : ℕ) → entryCount l ≤ i → rowsAt l i
 unfolding rowsAt rowsFrom
 rows-end l i at h = let z : entryCount l - i ≡ 0 = omega arith in rw z
 
-pub rows-next : (l : List ℕ) (i at : ℕ) → i < entryCount l → rowsAt l i at ≡ rowAt l i at ∷ rowsAt l (i + 1) (nextAt l i at)
+rows-next : (l : List ℕ) (i at : ℕ) → i < entryCount l → rowsAt l i at ≡ rowAt l i at ∷ rowsAt l (i + 1) (nextAt l i at)
 unfolding rowsAt rowAt nextAt pathLengthAt contentsMarkAt
 rows-next l i at h =
     let n = entryCount l in
@@ -63,12 +61,6 @@ rows-next l i at h =
   where
     one : (k : ℕ) (ps cs t : List ℕ) → rowsFrom (suc k) ps cs t ≡ record { path = take (number32 ps) t; isDirectory = eqb (number32 cs) directoryMark; contents = take (contentsLength (number32 cs)) (drop (number32 ps) t) } ∷ rowsFrom k (drop 4 ps) (drop 4 cs) (drop (number32 ps + contentsLength (number32 cs)) t)
     one k ps cs t = unfold rowsFrom in refl
-
--- one step of a search
-pub search-next : (l : List ℕ) (i at : ℕ) (p : Text) → i < entryCount l
-    → entryIn (rowsAt l i at) p ≡ (if equal (rowAt l i at .path) p then entryOf (rowAt l i at) else entryIn (rowsAt l (i + 1) (nextAt l i at)) p)
-unfolding entryIn
-search-next l i at p h = ap (λ rs. entryIn rs p) (rows-next l i at h)
 
 -- a number of 32 bits by its bytes
 pub number-at : (l : List ℕ) (k : ℕ) → number32 (drop k l) ≡ getD l k 0 + 256 * (getD l (k + 1) 0 + 256 * (getD l (k + 2) 0 + 256 * getD l (k + 3) 0))
@@ -98,13 +90,13 @@ module _ (l : List ℕ) where
       go (inl h) = let k : length l ≤ min a (length l) = omega arith in take-all _ l h ∙ sym (take-all _ l k)
       go (inr h) = let k : a ≡ min a (length l) = omega arith in ap (λ (n : ℕ). take n l) k
 
-  pub drop-clamped : (a b : ℕ) → min a (length l) ≡ min b (length l) → drop a l ≡ drop b l
+  drop-clamped : (a b : ℕ) → min a (length l) ≡ min b (length l) → drop a l ≡ drop b l
   drop-clamped a b e = drop-min a ∙ ap (λ (n : ℕ). drop n l) e ∙ sym (drop-min b)
 
-  pub take-clamped : (a b : ℕ) → min a (length l) ≡ min b (length l) → take a l ≡ take b l
+  take-clamped : (a b : ℕ) → min a (length l) ≡ min b (length l) → take a l ≡ take b l
   take-clamped a b e = take-min a ∙ ap (λ (n : ℕ). take n l) e ∙ sym (take-min b)
 
-pub rows-clamped : (l : List ℕ) (i a b : ℕ) → min a (length l) ≡ min b (length l) → rowsAt l i a ≡ rowsAt l i b
+rows-clamped : (l : List ℕ) (i a b : ℕ) → min a (length l) ≡ min b (length l) → rowsAt l i a ≡ rowsAt l i b
 unfolding rowsAt
 rows-clamped l i a b e = ap (λ t. rowsFrom (entryCount l - i) (drop (8 + 4 * i) l) (drop (8 + 4 * entryCount l + 4 * i) l) t) (drop-clamped l a b e)
 
@@ -223,18 +215,8 @@ pub entry-end : {rs : List Row} (p : Text) → rs ≡ [] → entryIn rs p ≡ no
 unfolding entryIn
 entry-end p e = rw e
 
--- the rules, by their parts
-pub path-is : (p : Text) {a b c d : Bool} → startsWith (text "/") p ≡ a → (equal p (text "/") || all isComponent (split slash (drop 1 p))) ≡ b → isUtf8 p ≡ c → not (contains 0 p) ≡ d
-    → isPath p ≡ (a && b && c && d)
-unfolding isPath
-path-is p h i j k = cc
-
 abbrev pub row : Text → Bool → List ℕ → Row
 row p d c = record { path = p; isDirectory = d; contents = c }
-
-pub fits-is : (p : Text) (f : Bool) (s : List ℕ) {a b c d : Bool} → leb (length p) 1024 ≡ a → leb (count slash p) 32 ≡ b → isManifest p ≡ c → equal s [] ≡ d → rowFits (row p f s) ≡ (a && b && (c || d))
-unfolding rowFits
-fits-is p f s h i j k = cc
 
 pub all-next : {A : Type 0} (f : A → Bool) {rs : List A} {r : A} {q : List A} → rs ≡ r ∷ q → {b : Bool} → f r ≡ b → all f rs ≡ (b && all f q)
 unfolding all
@@ -265,27 +247,11 @@ pub after-end : (p : Text) {rs : List Row} → rs ≡ [] → risingAfter p rs �
 unfolding risingAfter
 after-end p e = rw e
 
-pub rising-end : {rs : List Row} → rs ≡ [] → rising rs ≡ true
-unfolding rising
-rising-end e = rw e
-
-pub root-end : {rs : List Row} → rs ≡ [] → firstIsRoot rs ≡ false
-unfolding firstIsRoot
-root-end e = rw e
-
 pub root-first : {rs : List Row} {r : Row} {q : List Row} → rs ≡ r ∷ q → {b : Bool} → equal (r .path) (text "/") ≡ b → firstIsRoot rs ≡ (b && r .isDirectory)
 unfolding firstIsRoot
 root-first e h = rw (e, h)
 
-pub passes-30 : (l : List ℕ) {a b : Bool} → sizesFit l ≡ a → all rowFits (rows l) ≡ b → passes30 l ≡ (a && b)
-unfolding passes30
-passes-30 l h i = cc
-
-pub passes-31 : (l : List ℕ) {a b c d : Bool} → firstIsRoot (rows l) ≡ a → all (λ r. isPath (r .path)) (rows l) ≡ b → rising (rows l) ≡ c → all (parentIsDirectory (rows l)) (rows l) ≡ d → passes31 l ≡ (a && b && c && d)
-unfolding passes31
-passes-31 l h i j k = rw (h, i, j, k)
-
-pub part-length : (l : List ℕ) (a e : ℕ) → a ≤ e → e ≤ length l → length (part l a e) ≡ e - a
+part-length : (l : List ℕ) (a e : ℕ) → a ≤ e → e ≤ length l → length (part l a e) ≡ e - a
 part-length l a e h k = length-take (e - a) (drop a l) ∙ omega (arith, length-drop a l)
 
 pub root-length : (p : Text) → equal p (text "/") ≡ true → length p ≡ 1

@@ -1,18 +1,19 @@
 -- Facts about `Path`: the limit, `push`, components from a place on, lengths, the climb. Parents by the last slash: PathSteps.
 use mathlib.Core.Path.{_≡_, refl, sym, _∙_, ap}
-use Prim.Native.Nat.{ℕ, zero, suc, _+_, _-_, _≤_, _<_}
+use Prim.Native.Nat.{ℕ, suc, _+_, _-_, _≤_, _<_}
 use native.Mathlib.Omega.{arith}
-use mathlib.Core.Bool.{Bool, true, false, not, _&&_, _||_}
+use mathlib.Core.Bool.{Bool, true, false, _&&_, _||_, false≢true}
 use mathlib.Core.Logic.{_⊎_, inl, inr, ⊎-elim}
-use mathlib.Core.List.{List, [], _∷_, _++_, append-assoc, append-nil, flatMap}
+use mathlib.Core.List.{List, [], _∷_, _++_, append-nil, flatMap}
 use lib.ListN.{length, drop, take, getD, length-append}
-use lib.Seq.{drop-cons, drop-length}
+use lib.Seq.{drop-cons, drop-length, getD-take}
 use lib.Dec.{eqb, leb}
-use borrow.Author.Tests.{le-leb, lt-leb, leb-true, leb-false, eq-eqb, ne-eqb}
-use Rattle.definition.specs.Text.{text, if_then_else_, slash, equal, startsWith, endsWith, contains, before, beforeLast, toFirst, split}
-use Rattle.definition.specs.TextLaws.{equal-true}
-use Rattle.definition.specs.PathSteps.{behind, split-at, behind-end, behind-more, starts-with, last-inside}
-use Rattle.definition.specs.Path.{Component, rootDir, curDir, parentDir, normal, component, leading, components, push, orRoot, parent, pops, Built, built, tooLong, andPath, limited, pushComponent, pushAll, normalizeOnto, normalizeWith, pushRelative, normalizeRelative, invalidComponent, anyInvalid, isInvalidExportsTarget, addExtension}
+use borrow.Author.Tests.{le-leb, lt-leb, leb-true, leb-false, eqb-true, eqb-false, eq-eqb, ne-eqb}
+use Rattle.definition.specs.Text.{text, if_then_else_, slash, equal, startsWith, endsWith, contains, before, beforeLast, toFirst, split, count, all}
+use Rattle.definition.specs.TextLaws.{equal-true, and-true}
+use Rattle.definition.specs.Listing.{isComponent, isPath}
+use Rattle.definition.specs.PathSteps.{split-at, behind-end, behind-more, starts-with, starts-empty, last-inside, LastAt, last-found, last-missing, count-none}
+use Rattle.definition.specs.Path.{Component, rootDir, curDir, parentDir, normal, component, leading, components, push, orRoot, parent, pops, Built, built, tooLong, andPath, limited, pushComponent, pushAll, normalizeOnto, normalizeWith, pushRelative, normalizeRelative, invalidComponent, anyInvalid, isInvalidExportsTarget, addExtension, depth, climb, dirs}
 
 -- the limit
 module _ (p : List ℕ) where
@@ -120,6 +121,10 @@ rooted p h e = starts-with slash p h ∙ eq-eqb slash (getD p 0 0) (sym e)
 
 pub not-rooted : (p : List ℕ) → 0 < length p → (getD p 0 0 ≡ slash → ⊥) → startsWith (text "/") p ≡ false
 not-rooted p h n = starts-with slash p h ∙ ne-eqb slash (getD p 0 0) (λ e. n (sym e))
+
+pub parts-rooted : (b : ℕ) (s : List ℕ) → eqb slash b ≡ true → parts (b ∷ s) ≡ parts s
+unfolding parts split flatMap
+parts-rooted b s h = rw (eq-eqb b slash (sym (eqb-true slash b h))) (unfold component equal in refl)
 
 -- components by parts: of an absolute path, and of any other, where a leading "." is one more
 pub components-rooted : (p : List ℕ) → startsWith (text "/") p ≡ true → components p ≡ rootDir ∷ parts p
@@ -274,3 +279,145 @@ module _ (p : List ℕ) where
       go true v e = omega (arith, room-low)
       go false true e = up (pops p) (equal-true s (text "..") e)
       go false false e = omega (arith, push-length s)
+
+-- how long the parts between slashes are, with a slash between any two
+unfoldable total : List (List ℕ) → ℕ
+total [] = 0
+total (s ∷ []) = length s
+total (s ∷ t ∷ ps) = suc (length s + total (t ∷ ps))
+
+split-total : (s : List ℕ) → total (split slash s) ≡ length s
+unfolding split toFirst total
+split-total [] = refl
+split-total (b ∷ s) = go (eqb b slash) (split slash s) (split-at slash s 0 (length (before slash s)) (omega arith)) (split-total s)
+  where
+    go : (u : Bool) (ps : List (List ℕ)) {q : List ℕ} {qs : List (List ℕ)} → ps ≡ q ∷ qs → total ps ≡ length s → total (if u then [] ∷ ps else toFirst b ps) ≡ suc (length s)
+    go u [] e h = absurd (let z : _≡_ {A = ℕ} 0 1 = cc in let y : ⊥ = omega arith in y)
+    go true (p ∷ ps) e h = omega arith
+    go false (p ∷ []) e h = omega arith
+    go false (p ∷ t ∷ ps) e h = omega arith
+
+relative-all : (ps : List (List ℕ)) (p : List ℕ) → length (pushRelative (flatMap component ps) p) ≤ room p + total ps
+unfolding flatMap total
+relative-all [] p = unfold pushRelative in (omega (arith, room-low p))
+relative-all (s ∷ []) p = rw (append-nil (component s)) (relative-length p s)
+relative-all (s ∷ t ∷ ps) p =
+    rw (pushRelative-append (component s) (flatMap component (t ∷ ps)) p)
+    (omega (arith, relative-all (t ∷ ps) (pushRelative (component s) p), room-high (pushRelative (component s) p), relative-length p s))
+
+-- `normalize_relative` makes no path longer
+pub normalizeRelative-short : (p : List ℕ) → length (normalizeRelative p) ≤ length p
+unfolding parts
+normalizeRelative-short p = go (startsWith (text "/") p) p refl
+  where
+    go : (u : Bool) (p : List ℕ) → startsWith (text "/") p ≡ u → length (normalizeRelative p) ≤ length p
+    go false p h =
+        let r : rootOf p ≡ [] = unfold rootOf in (rw h) in
+        let z : room [] ≡ 0 = unfold room equal in refl in
+        rw (relative-parts p, r) (omega (arith, relative-all (split slash p) [], split-total p))
+    go true [] h = absurd (false≢true (sym (starts-empty slash [] refl) ∙ h))
+    go true (c ∷ s) h =
+        let r : rootOf (c ∷ s) ≡ text "/" = unfold rootOf in (rw h) in
+        let k : eqb slash c ≡ true = sym (starts-with slash (c ∷ s) (omega arith)) ∙ h in
+        let z : room (text "/") ≡ 1 = unfold room equal endsWith in refl in
+        rw (relative-parts (c ∷ s), r, parts-rooted c s k) (omega (arith, relative-all (split slash s) (text "/"), split-total s))
+
+-- the climb: an absolute path that does not begin with "//" has one directory more above it than its parent
+pub record Rooted (p : List ℕ) : Type 0 where
+  pub starts : startsWith (text "/") p ≡ true
+  pub single : getD p 1 0 ≡ slash → ⊥
+
+count-last : (c : ℕ) (s : List ℕ) → contains c s ≡ true → count c s ≡ suc (count c (beforeLast c s))
+unfolding contains count beforeLast
+count-last c [] h = absurd (false≢true h)
+count-last c (b ∷ s) h = go (eqb b c) (contains c s) refl refl h (count-last c s)
+  where
+    go : (u v : Bool) → eqb b c ≡ u → contains c s ≡ v → u || v ≡ true → (contains c s ≡ true → count c s ≡ suc (count c (beforeLast c s))) → count c (b ∷ s) ≡ suc (count c (beforeLast c (b ∷ s)))
+    go u true e f h ih = let k : count c s ≡ suc (count c (beforeLast c s)) = ih f in rw f (omega arith)
+    go true false e f h ih = rw (f, e) (omega (arith, count-none c s f))
+    go false false e f h ih = absurd (false≢true h)
+
+starts-contains : (p : List ℕ) → startsWith (text "/") p ≡ true → contains slash p ≡ true
+unfolding contains
+starts-contains [] h = absurd (false≢true (sym (starts-empty slash [] refl) ∙ h))
+starts-contains (b ∷ p) h =
+    let k : eqb slash b ≡ true = sym (starts-with slash (b ∷ p) (omega arith)) ∙ h in
+    rw (eq-eqb b slash (sym (eqb-true slash b k)))
+
+last-slash : (p : List ℕ) → contains slash p ≡ true → LastAt slash p (length (beforeLast slash p))
+last-slash p h = last-found slash p (length (beforeLast slash p)) refl (go (eqb (length (beforeLast slash p)) (length p)) refl)
+  where
+    go : (u : Bool) → eqb (length (beforeLast slash p)) (length p) ≡ u → length (beforeLast slash p) < length p
+    go true e = absurd (false≢true (sym (last-missing slash p (eqb-true _ _ e)) ∙ h))
+    go false e = let n : length (beforeLast slash p) ≡ length p → ⊥ = eqb-false _ _ e in omega (arith, last-inside slash p)
+
+not-equal : (s t : List ℕ) → (s ≡ t → ⊥) → equal s t ≡ false
+not-equal s t n = go (equal s t) refl
+  where
+    go : (u : Bool) → equal s t ≡ u → u ≡ false
+    go true e = absurd (n (equal-true s t e))
+    go false e = refl
+
+module _ (p : List ℕ) (g : Rooted p) where
+  has : contains slash p ≡ true
+  has = starts-contains p (g .starts)
+
+  -- the parent is what stands before the last slash, or "/"
+  parent-is : parent p ≡ orRoot (beforeLast slash p)
+  unfolding parent
+  parent-is = rw has
+
+  pub rooted-parent : Rooted (parent p)
+  unfolding orRoot
+  rooted-parent = rw parent-is (go (beforeLast slash p) refl)
+    where
+      first : getD p 0 0 ≡ slash
+      first = let l = last-slash p has .inside in sym (eqb-true slash (getD p 0 0) (sym (starts-with slash p (omega arith)) ∙ g .starts))
+
+      second : (b : ℕ) (s : List ℕ) → b ∷ s ≡ take (suc (length s)) p → getD (b ∷ s) 1 0 ≡ slash → ⊥
+      second b [] f z = omega arith
+      second b (x ∷ s) f z = g .single (sym (ap (λ q. getD q 1 0) f ∙ getD-take (suc (suc (length s))) p 1 0 (omega arith)) ∙ z)
+
+      go : (q : List ℕ) → beforeLast slash p ≡ q → Rooted (orRoot q)
+      go [] e = record { starts = (unfold startsWith in refl); single = λ z. omega arith }
+      go (b ∷ s) e =
+          let f : b ∷ s ≡ take (suc (length s)) p = sym e ∙ last-slash p has .front ∙ ap (λ q. take (length q) p) e in
+          record {
+            starts = rooted (b ∷ s) (omega arith) (ap (λ q. getD q 0 0) f ∙ getD-take (suc (length s)) p 0 0 (omega arith) ∙ first);
+            single = second b s f;
+          }
+
+  deep : (p ≡ text "/" → ⊥) → depth p ≡ suc (depth (parent p))
+  unfolding depth orRoot
+  deep n = rw (not-equal p (text "/") n, parent-is, count-last slash p has) (go (beforeLast slash p) refl)
+    where
+      go : (q : List ℕ) → beforeLast slash p ≡ q → suc (count slash q) ≡ suc (if equal (orRoot q) (text "/") then 0 else count slash (orRoot q))
+      go [] e = unfold count equal in refl
+      go (b ∷ s) e =
+          let ne : equal (b ∷ s) (text "/") ≡ false = not-equal (b ∷ s) (text "/") (λ z. g .single (rw (ap length (e ∙ z)) at (last-slash p has .here))) in
+          rw ne
+
+  pub dirs-step : (p ≡ text "/" → ⊥) → dirs p ≡ p ∷ dirs (parent p)
+  unfolding dirs climb
+  dirs-step n = rw (deep n)
+
+pub dirs-root : dirs (text "/") ≡ text "/" ∷ []
+unfolding dirs depth climb equal
+dirs-root = refl
+
+-- a path of an accepted listing is such a path
+no-slash : (p : List ℕ) → all isComponent (split slash (drop 1 p)) ≡ true → getD p 1 0 ≡ slash → ⊥
+unfolding all split
+no-slash [] h z = omega arith
+no-slash (a ∷ []) h z = omega arith
+no-slash (a ∷ b ∷ p) h z = let none : isComponent [] ≡ false = unfold isComponent equal in refl in false≢true (sym none ∙ and-true _ _ (rw (eq-eqb b slash z) at h) .0)
+
+pub path-rooted : (p : List ℕ) → isPath p ≡ true → Rooted p
+unfolding isPath
+path-rooted p h =
+    let a = and-true (startsWith (text "/") p) _ (and-true _ _ (and-true _ _ h .0) .0) in
+    record { starts = a .0; single = go (equal p (text "/")) refl (a .1) }
+  where
+    go : (u : Bool) → equal p (text "/") ≡ u → u || all isComponent (split slash (drop 1 p)) ≡ true → getD p 1 0 ≡ slash → ⊥
+    go true e k z = let f : getD p 1 0 ≡ 0 = ap (λ q. getD q 1 0) (equal-true p (text "/") e) in omega arith
+    go false e k z = no-slash p k z

@@ -5,11 +5,11 @@ use mathlib.Core.Bool.{Bool, true, false, not, _&&_, _||_, or-true, false≢true
 use mathlib.Core.List.{List, [], _∷_, _++_}
 use native.Mathlib.Omega.{arith}
 use native.Mathlib.Numerals.{add-one}
-use borrow.Author.Tests.{eqb-true, eq-eqb, ne-eqb}
+use borrow.Author.Tests.{eqb-true, eq-eqb}
 use lib.Dec.{eqb, eqb·zero-suc, eqb·suc-suc}
 use lib.ListN.{length, drop, take, getD, drop-of-length-le, length-drop}
-use lib.Seq.{drop-cons, drop-drop, take-suc, take-all, length-take-le, split-at as cut-at}
-use Rattle.definition.specs.Text.{text, if_then_else_, slash, equal, startsWith, contains, count, before, beforeLast, toFirst, split, all, Due, due, bad, isUtf8From, isUtf8, dueAfter, within}
+use lib.Seq.{drop-cons, drop-drop, take-suc, take-all, length-take-le}
+use Rattle.definition.specs.Text.{text, if_then_else_, slash, startsWith, contains, count, before, beforeLast, toFirst, split, all, Due, due, bad, isUtf8From, isUtf8, dueAfter, within}
 use Rattle.definition.specs.TextLaws.{and-true}
 use Rattle.definition.specs.Path.{orRoot, parent, nameOf}
 

@@ -1,18 +1,18 @@
 -- Facts about the definitions of `Specifier`. Assumes nothing.
 use mathlib.Core.Path.{_≡_, refl, sym, _∙_, ap}
-use Prim.Native.Nat.{ℕ, zero, suc, _+_, _-_, _≤_, _<_}
+use Prim.Native.Nat.{ℕ, zero, suc, _+_, _≤_, _<_}
 use mathlib.Core.Bool.{Bool, true, false, not, _&&_, _||_, and-false, and-assoc, and-comm}
-use mathlib.Core.List.{List, [], _∷_, _++_, flatMap}
+use mathlib.Core.List.{List, [], _∷_, _++_}
+use mathlib.Core.Option.{none, some}
 use native.Mathlib.Omega.{arith}
 use borrow.Author.Tests.{eqb-true, eqb-false, eq-eqb, ne-eqb}
 use lib.Dec.{eqb}
 use lib.ListN.{length, drop, take, getD, length-append, length-take, drop-of-length-le}
 use lib.Seq.{take-append-add, append-snoc, drop-cons, drop-nil}
-use Rattle.definition.specs.Text.{text, if_then_else_, slash, equal, startsWith, contains, before, after, toFirst, split}
+use Rattle.definition.specs.Text.{text, if_then_else_, slash, equal, startsWith, contains, containsText, before, after, toFirst, split}
 use Rattle.definition.specs.TextLaws.{before-after, and-true}
-use Rattle.definition.specs.TextSteps.{before-inside}
-use Rattle.definition.specs.Path.{Component, rootDir, curDir, parentDir, normal, component, leading, components}
-use Rattle.definition.specs.Specifier.{packageName, firstIsNormal, isBare, specifier-computes}
+use Rattle.definition.specs.Path.{component, leading, components}
+use Rattle.definition.specs.Specifier.{packageName, firstIsNormal, isBare, normalizedSpecifier, climbing, specifier-computes}
 
 -- the byte c stands at a place, or it does not
 pub starts-at : (c : ℕ) (s : List ℕ) (i : ℕ) → i < length s → getD s i 0 ≡ c → startsWith (c ∷ []) (drop i s) ≡ true
@@ -156,3 +156,17 @@ bare (b ∷ s) = go (eqb b 47) refl
     go false h =
         let p : startsWith (text "/") (b ∷ s) ≡ false = starts-not 47 (b ∷ s) 0 (eqb-false b 47 h) in
         simp (p, not-empty b s, split-first slash (b ∷ s), before-more slash b s h, first-normal b (before slash s) (otherParts slash (b ∷ s))) (turn (not (equal (b ∷ before slash s) (text "."))) (not (equal (b ∷ before slash s) (text ".."))) (not (startsWith (text "#") (b ∷ s))))
+
+-- the second walk, by the tests that decide it
+module _ (s : List ℕ) where
+  pub climbing-flat : containsText (text "/../..") s || containsText (text "../../") s ≡ false → climbing s ≡ none
+  unfolding climbing
+  climbing-flat h = rw h
+
+  pub climbing-inside : equal (packageName (normalizedSpecifier s)) (text "..") ≡ false → climbing s ≡ none
+  unfolding climbing
+  climbing-inside h = simp (h, and-false)
+
+  pub climbing-above : containsText (text "/../..") s || containsText (text "../../") s ≡ true → equal (packageName (normalizedSpecifier s)) (text "..") ≡ true → climbing s ≡ some (normalizedSpecifier s)
+  unfolding climbing
+  climbing-above h k = rw (h, k)

@@ -1,6 +1,7 @@
 -- WHAT IS PROVED OF THE DEFINITION, in one place: each statement in full, with the module that proves it. The definitions that the statements
 -- speak of stand in Called (definition, called, formula), Reordered (demand 3's words), Exports and Walk.
 use mathlib.Core.Path.{_≡_}
+use mathlib.Core.Logic.{_↔_, _⊎_}
 use mathlib.Core.Bool.{true, false}
 use mathlib.Core.List.{List, [], _∷_, map, List·Memᴰ, List·Permᴰ}
 use mathlib.Core.Option.{none, some}
@@ -9,7 +10,7 @@ use lib.ListN.{length}
 use Rattle.definition.specs.Text.{Text, text, all}
 use Rattle.definition.specs.Listing.{accepted, entryAt, isDirectoryOf}
 use Rattle.definition.specs.Settings.{Settings, settingsOf, passes24}
-use Rattle.definition.specs.Json.{Json, obj, Members, member, got, parse}
+use Rattle.definition.specs.Json.{Json, obj, Members, member, got, beyond, twice, fault, parse}
 use Rattle.definition.specs.Exports.{Entry, best, Context, nothing, PACKAGE-EXPORTS-RESOLVE}
 use Rattle.definition.specs.Ask.{Consult, go}
 use Rattle.definition.specs.Manifest.{found, isAnswer, Place, resolveExports}
@@ -17,6 +18,8 @@ use Rattle.definition.specs.Walk.{lookup}
 use Rattle.definition.specs.Called.{Question, seenBy, endOf, listOf, formula, Rooms, textsIn, zeros, called}
 use Rattle.definition.specs.Reordered.{Agrees, Reordered}
 use Rattle.definition.specs.AnswersMarked
+use Rattle.definition.specs.AnswersLimits
+use Rattle.definition.specs.AnswersJson
 use Rattle.definition.specs.AnswersLookup
 use Rattle.definition.specs.AnswersPrinted.{asked, shown, printed, printed-end}
 use Rattle.definition.specs.DemandThree.{questionOf, Demand3, demand-3, short-list, shortest-list}
@@ -28,6 +31,8 @@ use Rattle.definition.specs.FoundFile.{FoundIn, found-is-file}
 use Rattle.definition.specs.CallEnds.{Ended, Filled, called-whole, Reached, refused-with}
 use Rattle.definition.specs.WalkBounds.{Asks, Sought, AllFit, asks-bounded, all-fit, never-20}
 use Rattle.definition.specs.FitLaws.{Fit}
+use Rattle.definition.specs.JsonGrammar.{Manifest-text, Within}
+use Rattle.definition.specs.JsonGrammarLaws.{parse-exactly, parse-beyond-limits, parse-one-value}
 use Rattle.definition.specs.ExportsLaws.{Something, never-nothing}
 use Rattle.definition.specs.InsidePackage.{Below, match-inside}
 use Rattle.definition.specs.CallTwice.{isForBuffers, whatever-buffers}
@@ -41,6 +46,14 @@ marked-examples = AnswersMarked.all-hold
 -- the smallest example of each entry of docs/DIFFERENCES.md, and others: number, texts and list are those that the Rust printed
 pub lookup-examples : all AnswersLookup.holds AnswersLookup.rows ≡ true
 lookup-examples = AnswersLookup.all-hold
+
+-- a target of 2,048 bytes, one of 2,049, and an array that drops errors and no refusal
+pub limit-examples : AnswersLimits.all AnswersLimits.rows ≡ true
+limit-examples = AnswersLimits.all-hold
+
+-- RFC 8259's own examples, faults, and each limit of a manifest, met and passed: what the reader says of each text
+pub json-examples : map (λ r. parse (r .bytes)) AnswersJson.rows ≡ map (λ r. r .says) AnswersJson.rows
+json-examples = AnswersJson.all-say
 
 -- 01's printed example, from the bytes of its listing and settings: the answer and the list
 pub printed-answer : endOf asked ≡ found (record { path = text "/p/node_modules/mat/lib/steel.js"; query = []; fragment = [] })
@@ -143,3 +156,17 @@ exports-decide = never-nothing
 pub same-question : (q : Question) (m n : Rooms) → isForBuffers (called q m .number) ≡ false → isForBuffers (called q n .number) ≡ false
     → (called q m .number ≡ called q n .number) × (textsIn (called q m) ≡ textsIn (called q n))
 same-question = whatever-buffers
+
+-- 6. THE JSON READER ----------------------------------------------------------------------------------------------------------------------
+
+-- it accepts exactly the texts of RFC 8259's grammar, behind a byte order mark or not, of at most 16,384 bytes and within the limits, and gives exactly their values
+pub manifests-read : (s : Text) (j : Json) → parse s ≡ got j [] ↔ (length s ≤ 16384) × Manifest-text s j × Within 16 j
+manifests-read = parse-exactly
+
+-- every other text of the grammar it refuses as 40 or 41, and never as malformed
+pub manifests-refused : {s : Text} {j : Json} → Manifest-text s j → ((length s ≤ 16384) × Within 16 j → ⊥) → (parse s ≡ fault beyond) ⊎ (parse s ≡ fault twice)
+manifests-refused = parse-beyond-limits
+
+-- and the value of a text that it accepts is the only one that the grammar gives it
+pub one-value : {s : Text} {i j : Json} → length s ≤ 16384 → Manifest-text s i → Manifest-text s j → Within 16 j → i ≡ j
+one-value = parse-one-value

@@ -9,7 +9,7 @@ ghost use Rattle.definition.specs.Text.{equal, all};
 ghost use Rattle.definition.specs.Listing.{number32, entryCount, contentsLength, rows, isDirectoryOf, sizesFit, isManifest, isComponent, firstIsRoot};
 ghost use Rattle.definition.specs.ListingSteps.{part, rowBy, Standing, lengthsAt};
 ghost use Rattle.definition.specs.ListingNames.{isName, Plain};
-ghost use Rattle.definition.specs.ListingOrder.{Remarked, markOf, inOrder, sized};
+ghost use Rattle.definition.specs.ListingOrder.{Shared, Remarked, markOf, inOrder, sized};
 ghost use Rattle.listing.specs.Meaning.{Searched, Clamped, Placed, Parts, Stepped, ruleOf, verdict};
 
 fn wide(x: u8) -> usize
@@ -379,10 +379,27 @@ pub enum Parting {
     Down,
 }
 
+// Some bytes that both paths begin with, four at a time.
+fn shared(p: &[u8], q: &[u8]) -> usize
+    ensures { λ r. ⌜ Shared (now (p .entry)) (now (q .entry)) r ⌝ }
+{
+    let mut i = 0;
+    while i + 4 <= p.len() {
+        if i + 4 > q.len() {
+            return i;
+        }
+        if number_at(p, i) != number_at(q, i) {
+            return i;
+        }
+        i += 4;
+    }
+    i
+}
+
 fn rise(p: &[u8], q: &[u8]) -> Parting
     ensures { λ r. ⌜ Parts (now (p .entry)) (now (q .entry)) r ⌝ }
 {
-    let mut i = 0;
+    let mut i = shared(p, q);
     loop {
         if i >= q.len() {
             return Parting::Down;

@@ -31,17 +31,6 @@ module _ {A B : Type 0} {m : List ℕ} {x : Read A} {r : Scan} (k : A → List �
       go (got a s) h = let z : s ≡ drop i m = cc in rw z (f a .is)
       go (fault n) h = cc
 
--- two readers gave something: the first did
-pub record Both {A B : Type 0} (x : Read A) (k : A → List ℕ → Read B) (b : B) (s : List ℕ) : Type 0 where
-  pub value : A
-  pub rest : List ℕ
-  pub first : x ≡ got value rest
-  pub second : k value rest ≡ got b s
-
-pub both : {A B : Type 0} (x : Read A) (k : A → List ℕ → Read B) (b : B) (s : List ℕ) → andThen x k ≡ got b s → Both x k b s
-both (got a r) k b s h = record { value = a; rest = r; first = refl; second = h }
-both (fault n) k b s h = absurd (let z : _≡_ {A = ℕ} 0 1 = cc in omega arith)
-
 -- what a scan found, as the reader's own result
 module _ {A : Type 0} {m : List ℕ} {x : Read A} {r : Scan} (e : Reads m x r) where
   pub was-end : {i : ℕ} → r ≡ End i → (a : A) × (x ≡ got a (drop i m))

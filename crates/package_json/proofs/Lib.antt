@@ -6,5 +6,4 @@ pub mod Strings
 pub mod Names
 pub mod Values
 pub mod Whole
-pub mod Places
-pub mod Texts
+pub mod Walks

@@ -9,12 +9,15 @@ use lib.Seq.{drop-drop}
 use lib.Dec.{eqb, ltb, leb}
 use borrow.Author.Tests.{eq-eqb, ne-eqb, eqb-true, eqb-false, lt-ltb, le-ltb, lt-leb, le-leb, leb-true, leb-false}
 use Rattle.definition.specs.Text.{if_then_else_, within, equal}
+use Rattle.definition.specs.Local.{andThen-both}
+use Rattle.definition.specs.JsonAt.{hasEscape}
 use Rattle.definition.specs.Json as json
 use Rattle.definition.specs.Json.{got, fault, malformed, beyond, andThen, between, sequence, bad, gives, plainByte, sequenceByte, step, goOn, string, quoted}
 use Rattle.package_json.specs.Scanned.{left, Reads}
 use Rattle.package_json.specs.Decoded.{Begun, plain}
 use Rattle.package_json.specs.Automaton.{placeOf, outOf, stepOf, Good, Fair, Steps}
 use Rattle.package_json.specs.Names.{Matches}
+use Rattle.package_json.specs.Cursors.{startsQuote}
 use Rattle.package_json.specs.declared.Place.{Place}
 use Rattle.package_json.specs.declared.Out.{Out}
 use Rattle.package_json.specs.declared.Step.{Step}
@@ -23,7 +26,7 @@ use Rattle.package_json.specs.declared.Scan.the-variants.{End, Fault}
 use Rattle.package_json.specs.declared.Fault.the-variants.{Malformed, Beyond}
 use Rattle.package_json.specs.declared.Match.the-variants.{To, No}
 use Rattle.package_json.proofs.Rules.{here, past}
-use Rattle.package_json.proofs.Laws.{both, left-map}
+use Rattle.package_json.proofs.Laws.{left-map}
 
 none : {P : Type 0} → ⊥ → P
 none z = absurd z
@@ -90,20 +93,33 @@ does p free b q a =
     (does-if b (eqb b 244) (itself (inner 3 128 143 (omega arith))) wrong)))))))))
 does p (inner n lo hi h) b q a = does-if b (within lo hi b) (does-sequence n b) wrong
 
+-- a string was read from a byte on that gives decoded bytes
+took : (room : ℕ) (q : json.Place) (s out t r : List ℕ) → goOn (gives out q) room (λ r q. string r q s) s ≡ got t r → (u : List ℕ) × ((string (room - length out) q s ≡ got u r) × (t ≡ out ++ u))
+unfolding goOn
+took room q s out t r h = go (leb (length out) room) h
+  where
+    go : (b : Bool) → (if b then andThen (string (room - length out) q s) (λ t r. got (out ++ t) r) else fault beyond) ≡ got t r → (u : List ℕ) × ((string (room - length out) q s ≡ got u r) × (t ≡ out ++ u))
+    go true h = let k = andThen-both (string (room - length out) q s) (λ t r. got (out ++ t) r) t r h in (k .value, (k .first ∙ (let z : k .rest ≡ r = cc (k .second) in ap (λ x. got (k .value) x) z), cc (k .second)))
+    go false h = none (let z : _≡_ {A = ℕ} 0 1 = cc in omega arith)
+
+unread : (room : ℕ) (s t r : List ℕ) → goOn bad room (λ r q. string r q s) s ≡ got t r → ⊥
+unfolding goOn
+unread room s t r h = let z : _≡_ {A = ℕ} 0 1 = cc in omega arith
+
+-- a plain byte of a string, and the rest of it
+calm-next : (b room : ℕ) (s t r : List ℕ) (p : json.Place) → Calm p → (b ≡ 34 → ⊥) → (b ≡ 92 → ⊥) → goOn (step p b) room (λ r q. string r q s) s ≡ got t r
+    → (q : json.Place) × (Calm q × ((u : List ℕ) × ((string (room - 1) q s ≡ got u r) × (t ≡ b ∷ u))))
+calm-next b room s t r p c n a h = go (step p b) (does p c b n a) h
+  where
+    go : (x : json.Step) → Does b x → goOn x room (λ r q. string r q s) s ≡ got t r → (q : json.Place) × (Calm q × ((u : List ℕ) × ((string (room - 1) q s ≡ got u r) × (t ≡ b ∷ u))))
+    go x wrong h = none (unread room s t r h)
+    go x (itself {p = q} d) h = (q, (d, took room q s (b ∷ []) t r h))
+
 -- the closing quote
 ends : (p : json.Place) → Calm p → (room : ℕ) (s t r : List ℕ) → goOn (step p 34) room (λ r q. string r q s) s ≡ got t r → t ≡ []
 unfolding goOn step plainByte within
 ends p free room s t r h = cc
 ends p (inner n lo hi l) room s t r h = let z = rw (lt-leb lo 34 (omega arith)) at h in cc
-
-goes : (b room : ℕ) (s t r : List ℕ) (x : json.Step) → Does b x → ((room : ℕ) (p : json.Place) → Calm p → (t r : List ℕ) → string room p s ≡ got t r → t ≡ plain s) → goOn x room (λ r q. string r q s) s ≡ got t r → t ≡ b ∷ plain s
-unfolding goOn
-goes b room s t r x wrong f h = cc
-goes b room s t r x (itself {p} c) f h = go (leb 1 room) h
-  where
-    go : (l : Bool) → (if l then andThen (string (room - 1) p s) (λ t r. got (b ∷ t) r) else fault beyond) ≡ got t r → t ≡ b ∷ plain s
-    go true h = let k = both (string (room - 1) p s) (λ t r. got (b ∷ t) r) t r h in let z = f (room - 1) p c (k .value) (k .rest) (k .first) in cc (k .second)
-    go false h = cc
 
 -- a string that ends at the first quote or backslash is its own bytes
 plain-string : (s : List ℕ) (room : ℕ) (p : json.Place) → Calm p → (t r : List ℕ) → string room p s ≡ got t r → (u : List ℕ) → drop (length (plain s)) s ≡ 34 ∷ u → t ≡ plain s
@@ -116,7 +132,30 @@ plain-string (b ∷ s) room p c t r h u e = go (eqb b 34) (eqb b 92) refl refl (
         → drop (length (if x || y then [] else b ∷ plain s)) (b ∷ s) ≡ 34 ∷ u → t ≡ (if x || y then [] else b ∷ plain s)
     go true y ex ey f e = let z : b ≡ 34 = eqb-true b 34 ex in ends p c room s t r (rw z at h)
     go false true ex ey f e = none (eqb-false b 34 ex (let z : b ≡ 34 = cc in z))
-    go false false ex ey f e = goes b room s t r (step p b) (does p c b (eqb-false b 34 ex) (eqb-false b 92 ey)) (λ room p c t r h. f room p c t r h e) h
+    go false false ex ey f e = let z = calm-next b room s t r p c (eqb-false b 34 ex) (eqb-false b 92 ey) h in z .1 .1 .1 .1 ∙ ap (λ x. b ∷ x) (f (room - 1) (z .0) (z .1 .0) (z .1 .1 .0) r (z .1 .1 .1 .0) e)
+
+-- a string whose bytes before the first quote or backslash end otherwise has an escape; one that ends there has none
+pub escape-there : (s : List ℕ) (room : ℕ) (p : json.Place) → Calm p → (t r : List ℕ) → string room p s ≡ got t r → startsQuote (drop (length (plain s)) s) ≡ false → hasEscape s ≡ true
+unfolding string plain hasEscape
+escape-there [] room p c t r h e = cc
+escape-there (b ∷ s) room p c t r h e = go (eqb b 34) (eqb b 92) refl refl (escape-there s) e
+  where
+    go : (x y : Bool) → eqb b 34 ≡ x → eqb b 92 ≡ y
+        → ((room : ℕ) (p : json.Place) → Calm p → (t r : List ℕ) → string room p s ≡ got t r → startsQuote (drop (length (plain s)) s) ≡ false → hasEscape s ≡ true)
+        → startsQuote (drop (length (if x || y then [] else b ∷ plain s)) (b ∷ s)) ≡ false → (if x then false else if y then true else hasEscape s) ≡ true
+    go true y ex ey f e = sym e ∙ ex
+    go false true ex ey f e = refl
+    go false false ex ey f e = let z = calm-next b room s t r p c (eqb-false b 34 ex) (eqb-false b 92 ey) h in f (room - 1) (z .0) (z .1 .0) (z .1 .1 .0) r (z .1 .1 .1 .0) e
+
+pub no-escape : (s u : List ℕ) → drop (length (plain s)) s ≡ 34 ∷ u → hasEscape s ≡ false
+unfolding plain hasEscape
+no-escape [] u e = refl
+no-escape (b ∷ s) u e = go (eqb b 34) (eqb b 92) refl (no-escape s u) e
+  where
+    go : (x y : Bool) → eqb b 34 ≡ x → (drop (length (plain s)) s ≡ 34 ∷ u → hasEscape s ≡ false) → drop (length (if x || y then [] else b ∷ plain s)) (b ∷ s) ≡ 34 ∷ u → (if x then false else if y then true else hasEscape s) ≡ false
+    go true y ex f e = refl
+    go false true ex f e = none (eqb-false b 34 ex (let z : b ≡ 34 = cc in z))
+    go false false ex f e = f e
 
 -- a string from its opening quote
 pub quoted-string : (m : List ℕ) (at : ℕ) (k s : List ℕ) → at < length m → quoted (drop at m) ≡ got k s → string 1024 between (drop (at + 1) m) ≡ got k s
@@ -144,11 +183,17 @@ module _ (m : List ℕ) (at : ℕ) (l : at < length m) where
   quoted-yes e = rw (here m at l) (rw (eq-eqb (getD m at 0) 34 e))
 
 -- a string whose first quote or backslash is a quote is the bytes before it
-pub text-plain : (m : List ℕ) (from r : ℕ) {s t : List ℕ} → string 1024 between (drop from m) ≡ got s t → r ≡ from + length (plain (drop from m)) → r < length m → getD m r 0 ≡ 34 → take (r - from) (drop from m) ≡ s
-text-plain m from r {s} {t} h e l q =
+pub plain-stop-at : (m : List ℕ) (from r : ℕ) → r ≡ from + length (plain (drop from m)) → drop (length (plain (drop from m))) (drop from m) ≡ drop r m
+plain-stop-at m from r e = drop-drop (length (plain (drop from m))) from m ∙ ap (λ n. drop n m) (sym e)
+
+pub text-plain : (m : List ℕ) (from r : ℕ) {s t : List ℕ} (u : List ℕ) → string 1024 between (drop from m) ≡ got s t → r ≡ from + length (plain (drop from m)) → drop r m ≡ 34 ∷ u → take (r - from) (drop from m) ≡ s
+text-plain m from r {s} {t} u h e q =
     let k : r - from ≡ length (plain (drop from m)) = omega arith in
-    let b : drop (length (plain (drop from m))) (drop from m) ≡ 34 ∷ drop (r + 1) m = drop-drop (length (plain (drop from m))) from m ∙ ap (λ n. drop n m) (sym e) ∙ here m r l ∙ ap (λ x. x ∷ drop (r + 1) m) q in
-    rw k (plain-prefix (drop from m)) ∙ sym (plain-string (drop from m) 1024 between free s t h (drop (r + 1) m) b)
+    rw k (plain-prefix (drop from m)) ∙ sym (plain-string (drop from m) 1024 between free s t h u (plain-stop-at m from r e ∙ q))
+
+pub starts-quote : (s : List ℕ) → startsQuote s ≡ true → (u : List ℕ) × (s ≡ 34 ∷ u)
+starts-quote [] e = none (let z : _≡_ {A = Bool} false true = e in let y : _≡_ {A = ℕ} 0 1 = cc in omega arith)
+starts-quote (b ∷ s) e = (s, ap (λ x. x ∷ s) (eqb-true b 34 e))
 
 -- a byte that gives decoded bytes
 gives-left : (room : ℕ) (p q : json.Place) (b : ℕ) (s out : List ℕ) → step p b ≡ gives out q → length out ≤ room → left (string room p (b ∷ s)) ≡ left (string (room - length out) q s)
@@ -217,19 +262,6 @@ module _ {m : List ℕ} {at : ℕ} {p : Place} {i n : ℕ} (g : Scanning m at p 
                 turn (Gives o q) h
                 ∙ rw (le-leb (length (outOf o)) (1024 - n) (omega arith)) (left-map (λ t. outOf o ++ t) (string (1024 - n - length (outOf o)) (placeOf q) (drop (i + 1) m)) ∙ rw y);
           }
-
--- a string was read from a byte on that gives decoded bytes
-took : (room : ℕ) (q : json.Place) (s out t r : List ℕ) → goOn (gives out q) room (λ r q. string r q s) s ≡ got t r → (u : List ℕ) × ((string (room - length out) q s ≡ got u r) × (t ≡ out ++ u))
-unfolding goOn
-took room q s out t r h = go (leb (length out) room) h
-  where
-    go : (b : Bool) → (if b then andThen (string (room - length out) q s) (λ t r. got (out ++ t) r) else fault beyond) ≡ got t r → (u : List ℕ) × ((string (room - length out) q s ≡ got u r) × (t ≡ out ++ u))
-    go true h = let k = both (string (room - length out) q s) (λ t r. got (out ++ t) r) t r h in (k .value, (k .first ∙ (let z : k .rest ≡ r = cc (k .second) in ap (λ x. got (k .value) x) z), cc (k .second)))
-    go false h = none (let z : _≡_ {A = ℕ} 0 1 = cc in omega arith)
-
-unread : (room : ℕ) (s t r : List ℕ) → goOn bad room (λ r q. string r q s) s ≡ got t r → ⊥
-unfolding goOn
-unread room s t r h = let z : _≡_ {A = ℕ} 0 1 = cc in omega arith
 
 -- what a step gives is in range
 pub fair-out : {x : json.Step} {s : Step} {o : Out} {q : Place} → Steps x s → s ≡ Gives o q → Fair o
@@ -304,13 +336,8 @@ module _ {m key : List ℕ} {i k : ℕ} {t s : List ℕ} (v : Verbatim m key i k
       go p (inner n lo hi b) c = none (let h = rw (lt-leb lo 92 (omega arith)) at (rw (here m i l ∙ ap (λ x. x ∷ drop (i + 1) m) e) at (c .reads)) in let z : _≡_ {A = ℕ} 0 1 = cc in omega arith)
 
   module _ (q : getD m i 0 ≡ 34 → ⊥) (a : getD m i 0 ≡ 92 → ⊥) where
-    tail : (x : json.Step) → Does (getD m i 0) x → goOn x (v .so-far .room) (λ r q. string r q (drop (i + 1) m)) (drop (i + 1) m) ≡ got (v .so-far .text) s
-        → (p : json.Place) × (Calm p × ((u : List ℕ) × ((string (v .so-far .room - 1) p (drop (i + 1) m) ≡ got u s) × (v .so-far .text ≡ getD m i 0 ∷ u))))
-    tail x (itself {p} c) h = (p, (c, took (v .so-far .room) p (drop (i + 1) m) (getD m i 0 ∷ []) (v .so-far .text) s h))
-    tail x wrong h = none (unread (v .so-far .room) (drop (i + 1) m) (v .so-far .text) s h)
-
     there : (p : json.Place) × (Calm p × ((u : List ℕ) × ((string (v .so-far .room - 1) p (drop (i + 1) m) ≡ got u s) × (v .so-far .text ≡ getD m i 0 ∷ u))))
-    there = tail (step (v .place) (getD m i 0)) (does (v .place) (v .calm) (getD m i 0) q a) byte
+    there = calm-next (getD m i 0) (v .so-far .room) (drop (i + 1) m) (v .so-far .text) s (v .place) (v .calm) q a byte
 
     pub verbatim-short : length key ≤ k → false ≡ equal t key
     unfolding equal

@@ -8,13 +8,14 @@ use lib.ListN.{length, drop, getD}
 use lib.Dec.{eqb}
 use borrow.Author.Tests.{eq-eqb, ne-eqb, lt-leb, le-leb}
 use Rattle.definition.specs.Text.{startsWith, skipWhile}
-use Rattle.definition.specs.Json.{Json, Read, got, fault, malformed, beyond, andThen, skipSpace, isSpace, value, atEnd, document, replaceBom, parse}
-use Rattle.package_json.specs.Scanned.{faultOf, left, scanned, Reads}
-use Rattle.package_json.specs.Stands.{Rooted}
+use Rattle.definition.specs.Json.{malformed, beyond, andThen, skipSpace, isSpace, value, atEnd, document, replaceBom, parse}
+use Rattle.definition.specs.JsonAt.{rooted, faulty, checkedBy, check}
+use Rattle.package_json.specs.Scanned.{faultOf, Reads}
 use Rattle.package_json.specs.declared.Fault as code
 use Rattle.package_json.specs.declared.Scan.{Scan}
 use Rattle.package_json.specs.declared.Scan.the-variants.{End, Fault}
 use Rattle.package_json.proofs.Rules.{here, past}
+use Rattle.package_json.proofs.Laws.{was-end, was-fault}
 
 none : {P : Type 0} → ⊥ → P
 none z = absurd z
@@ -72,9 +73,9 @@ module _ (m : List ℕ) (l : 3 ≤ length m) where
       go a b c t q e f g = with-mark (a ∷ b ∷ c ∷ t) (starts-by a b c t true true true (eq-eqb 239 a (sym e)) (eq-eqb 187 b (sym f)) (eq-eqb 191 c (sym g)))
 
 -- the manifest as a whole
-pub root-long : (m : List ℕ) → 16384 < length m → parse m ≡ fault beyond
-unfolding parse
-root-long m l = rw (lt-leb (length m) 16384 l)
+pub check-long : (m : List ℕ) → 16384 < length m → faulty beyond ≡ check m
+unfolding check checkedBy parse
+check-long m l = rw (lt-leb (length m) 16384 l)
 
 module _ (m : List ℕ) (l : length m ≤ 16384) (from start : ℕ) (e : skipSpace (replaceBom m) ≡ skipSpace (drop from m)) (f : skipSpace (drop from m) ≡ drop start m) where
   parsed-as : parse m ≡ andThen (value 16 (drop start m)) (λ j r. atEnd j (skipSpace r))
@@ -82,31 +83,15 @@ module _ (m : List ℕ) (l : length m ≤ 16384) (from start : ℕ) (e : skipSpa
   parsed-as = rw (le-leb (length m) 16384 l, e ∙ f)
 
   module _ {r : Scan} (g : Reads m (value 16 (drop start m)) r) where
-    pub root-fault : {n : code.Fault} → r ≡ Fault n → parse m ≡ fault (faultOf n)
-    root-fault {n} q = parsed-as ∙ go (value 16 (drop start m)) (g .is ∙ ap (scanned m) q)
-      where
-        go : (x : Read Json) → left x ≡ fault (faultOf n) → andThen x (λ j r. atEnd j (skipSpace r)) ≡ fault (faultOf n)
-        go (got j s) h = cc
-        go (fault k) h = cc
+    pub check-fault : {n : code.Fault} → r ≡ Fault n → faulty (faultOf n) ≡ check m
+    unfolding check checkedBy
+    check-fault q = rw parsed-as (rw (was-fault g q))
 
     module _ {i k : ℕ} (q : r ≡ End i) (u : skipSpace (drop i m) ≡ drop k m) where
-      pub root-more : k < length m → parse m ≡ fault malformed
-      unfolding atEnd
-      root-more b = parsed-as ∙ go (value 16 (drop start m)) (g .is ∙ ap (scanned m) q)
-        where
-          go : (x : Read Json) → left x ≡ got tt (drop i m) → andThen x (λ j r. atEnd j (skipSpace r)) ≡ fault malformed
-          go (got j s) h = let z : s ≡ drop i m = cc in rw (z, u, here m k b)
-          go (fault n) h = cc
+      pub check-more : k < length m → faulty malformed ≡ check m
+      unfolding check checkedBy atEnd
+      check-more b = rw parsed-as (rw (was-end g q .1, u, here m k b))
 
-      pub root-all : length m ≤ k → Rooted m start
-      unfolding atEnd
-      root-all b = go (value 16 (drop start m)) refl (g .is ∙ ap (scanned m) q)
-        where
-          go : (x : Read Json) → value 16 (drop start m) ≡ x → left x ≡ got tt (drop i m) → Rooted m start
-          go (got j s) w h = let z : s ≡ drop i m = cc in record {
-            root = j;
-            parsed = parsed-as ∙ rw w (rw (z, u, past m k b));
-            rest = s;
-            reads = w;
-          }
-          go (fault n) w h = none (let o : _≡_ {A = ℕ} 0 1 = cc in omega arith)
+      pub check-all : length m ≤ k → rooted (drop start m) ≡ check m
+      unfolding check checkedBy atEnd
+      check-all b = rw parsed-as (rw (was-end g q .1, u, past m k b) (ap rooted (sym (e ∙ f))))

@@ -3,15 +3,23 @@ ghost use mathlib.Core.Bool.{Bool, true, false};
 ghost use Prim.Native.Nat.{ℕ, suc, _+_, _-_, _≤_, _<_};
 ghost use lib.ListN.{length, drop, take};
 ghost use Rattle.definition.specs.Text.{isOneOf, isDigit, hexDigit, utf8, trail as trailOf, equal as equalOf};
-ghost use Rattle.definition.specs.Json.{isSpace, skipSpace, skipDigits, digits as digitsOf, startsValue, sign as signOf, exponent as exponentOf, fraction as fractionOf, integer as integerOf, word as wordOf, plainByte, escapeByte, unit as unitOf, pair as pairOf, hexByte, secondHexByte, step as stepBy, sequence, between, string as stringOf, quoted as quotedOf, memberName, Read, Json, value as valueOf, array as arrayOf, object as objectOf, elements as elementsOf, members as membersOf, got, str, replaceBom, obj, Members, member, Elements, element as elementOf};
-ghost use Rattle.package_json.specs.Stands.{Root, Stands, MembersAt, MembersFrom, ElementsAt, ElementsFrom, First, Past, kindOf, Finds};
-ghost use Rattle.package_json.specs.Texts.{textOf, TextRead};
-ghost use Rattle.definition.specs.Exports.{get as getOf, entries};
+ghost use Rattle.definition.specs.Json.{faultNumber, isSpace, skipSpace, skipDigits, digits as digitsOf, startsValue, sign as signOf, exponent as exponentOf, fraction as fractionOf, integer as integerOf, word as wordOf, plainByte, escapeByte, unit as unitOf, pair as pairOf, hexByte, secondHexByte, step as stepBy, sequence, between, string as stringOf, quoted as quotedOf, memberName, Read, Json, value as valueOf, array as arrayOf, object as objectOf, elements as elementsOf, members as membersOf, got, str, replaceBom, obj, Members, member, Elements, element as elementOf};
+ghost use Rattle.definition.specs.JsonAt.{check as checkOf, kindAt, textEnd, opensBracket, closesBracket, outside, bracketEnd, valueEnd, behind as behindOf, thenAt, unlessClosed, firstMember, firstElement, nextElement, nameEnd, memberValue, nextMember, memberAt, elementAt, nameIs, getAt, textAt};
+ghost use Rattle.package_json.specs.Cursors.{checkedOf, numberOf, kindOf, placed, Ahead, Hops, startsQuote, textOf, told, orEmpty};
 ghost use Rattle.package_json.specs.Automaton.{placeOf, stepOf, outOf, Steps, Good, High, Below, leadByte, digitOf, Fair};
 ghost use Rattle.package_json.specs.Decoded.{Begun, Puts, Decodes, plain};
 ghost use mathlib.Core.List.{List, [], _∷_, _++_};
 ghost use Rattle.package_json.specs.Names.{Matches, markOf, Named, freshOf, NameRead, KeyRead, colonAt, keyOf};
-ghost use Rattle.package_json.specs.Scanned.{Reads, scalarOf, afterOf, afterAt};
+ghost use Rattle.package_json.specs.Scanned.{faultOf, Reads, scalarOf, afterOf, afterAt};
+
+// 01's limits: bytes of a manifest, brackets open at once, members of an object or elements of an array, decoded bytes of a string.
+const SIZE: usize = 16384;
+
+const DEPTH: usize = 16;
+
+const MEMBERS: usize = 128;
+
+const ROOM: usize = 1024;
 
 // What is wrong with a manifest, first: no JSON text can go on (7), a limit is passed (40), a name stands twice in one object (41).
 pub enum Fault {
@@ -500,9 +508,6 @@ pub enum Put {
     Over,
 }
 
-// 01's limit on a decoded string.
-const ROOM: usize = 1024;
-
 // A byte behind the n that stand.
 fn put_byte(w: &mut [u8], n: usize, b: u8) -> Put
     requires { ⌜ (n ≤ 1024) × (1024 ≤ length (now w)) ⌝ }
@@ -812,7 +817,7 @@ fn same_text(m: &[u8], at: usize, key: &[u8]) -> bool
         if b == b'"' {
             return k >= key.len();
         }
-        if b == b'\\' {
+        if b == 0x5c {
             return rest_is(m, i, key, k);
         }
         if k >= key.len() {
@@ -1000,7 +1005,7 @@ fn array(m: &[u8], at: usize, depth: usize) -> Scan
     if m[i] == b']' {
         return Scan::End(i + 1);
     }
-    let mut left: usize = 128;
+    let mut left = MEMBERS;
     while left > 0 {
         let read = value(m, i, depth);
         match read {
@@ -1034,7 +1039,7 @@ fn object(m: &[u8], at: usize, depth: usize) -> Scan
     }
     let mut names = [0usize; 128];
     let mut marks = [0u64; 128];
-    let mut left: usize = 128;
+    let mut left = MEMBERS;
     while left > 0 {
         let start = key(m, i, &names, &marks, left);
         match start {
@@ -1080,221 +1085,12 @@ fn extra_member(m: &[u8], at: usize) -> Scan
     ensures { λ r. ⌜ ((v : List ℕ → Read Json) (ns : List (List ℕ)) → Reads (now (m .entry)) (membersOf v ns 0 (drop at (now (m .entry)))) r) ⌝ }
 {
     if at < m.len() {
-        if m[at] == b'"' {
+        let first = m[at];
+        if first == b'"' {
             return Scan::Fault(Fault::Beyond);
         }
     }
     Scan::Fault(Fault::Malformed)
-}
-
-// Whether the string at a place is a text.
-pub fn name_is(m: &[u8], at: usize, key: &[u8]) -> bool
-    ensures { λ r. ⌜ ((t s : List ℕ) → quotedOf (drop at (now (m .entry))) ≡ got t s → r ≡ equalOf t (now (key .entry))) ⌝ }
-{
-    same_text(m, at, key)
-}
-
-// Where the next member or element begins, if there is one.
-pub enum Cursor {
-    At(usize),
-    Done,
-}
-
-// The kinds of values: all that anyone asks.
-pub enum Kind {
-    Scalar,
-    String,
-    Array,
-    Object,
-}
-
-pub fn kind_at(m: &[u8], at: usize) -> Kind
-    ensures { λ r. ⌜ ((d : ℕ) (j : Json) → Stands (now (m .entry)) d at j → r ≡ kindOf j) ⌝ }
-{
-    if at < m.len() {
-        let b = m[at];
-        if b == b'"' {
-            return Kind::String;
-        }
-        if b == b'[' {
-            return Kind::Array;
-        }
-        if b == b'{' {
-            return Kind::Object;
-        }
-    }
-    Kind::Scalar
-}
-
-// The first member or element of what a bracket opens.
-pub fn first(m: &[u8], at: usize, bracket: u8) -> Cursor
-    ensures { λ r. ⌜ First (now (m .entry)) at bracket r ⌝ }
-{
-    if at < m.len() {
-        let i = skip_space(m, at + 1);
-        if i < m.len() {
-            if m[i] == bracket {
-                return Cursor::Done;
-            }
-            return Cursor::At(i);
-        }
-    }
-    Cursor::Done
-}
-
-// What comes behind the value at a place.
-pub fn past(m: &[u8], at: usize, depth: usize, bracket: u8) -> Cursor
-    ensures { λ r. ⌜ ((j : Json) (s : List ℕ) → valueOf depth (drop at (now (m .entry))) ≡ got j s → Past (now (m .entry)) (afterOf bracket (skipSpace s)) r) ⌝ }
-{
-    let read = value(m, at, depth);
-    match read {
-        Scan::Fault(_) => Cursor::Done,
-        Scan::End(end) => {
-            let then = after(m, end, bracket);
-            match then {
-                Then::Neither => Cursor::Done,
-                Then::Close(_) => Cursor::Done,
-                Then::More(next) => Cursor::At(next),
-            }
-        }
-    }
-}
-
-// Where the value of the member at a place begins.
-pub fn member_value(m: &[u8], at: usize) -> usize
-    ensures { λ r. ⌜ ((ns : List (List ℕ)) (k s : List ℕ) → keyOf ns (drop at (now (m .entry))) ≡ got k s → s ≡ drop r (now (m .entry))) ⌝ }
-{
-    let name = quoted(m, at);
-    match name {
-        Scan::Fault(_) => at,
-        Scan::End(end) => {
-            let start = colon(m, end);
-            match start {
-                Scan::Fault(_) => at,
-                Scan::End(from) => from,
-            }
-        }
-    }
-}
-
-// The value of a member, and the next member.
-pub struct Entry {
-    pub value: usize,
-    pub next: Cursor,
-}
-
-pub fn entry_at(m: &[u8], at: usize, depth: usize) -> Entry
-    ensures { λ r. ⌜ ((n : ℕ) (k : List ℕ) (j : Json) (ms : Members) → MembersAt (now (m .entry)) depth n at (member k j ms) → Stands (now (m .entry)) depth (r .value) j × MembersFrom (now (m .entry)) depth (n - 1) ms (r .next)) ⌝ }
-{
-    let value = member_value(m, at);
-    let next = past(m, value, depth, b'}');
-    Entry { value, next }
-}
-
-// The next element.
-pub fn element(m: &[u8], at: usize, depth: usize) -> Cursor
-    ensures { λ r. ⌜ ((n : ℕ) (j : Json) (js : Elements) → ElementsAt (now (m .entry)) depth n at (elementOf j js) → Stands (now (m .entry)) depth at j × ElementsFrom (now (m .entry)) depth (n - 1) js r) ⌝ }
-{
-    past(m, at, depth, b']')
-}
-
-pub enum Found {
-    At(usize),
-    Nothing,
-}
-
-// The value of the member with a name, in the object at a place, whose values have `depth`.
-pub fn get(m: &[u8], at: usize, depth: usize, name: &[u8]) -> Found
-    ensures { λ r. ⌜ ((ms : Members) → Stands (now (m .entry)) (suc depth) at (obj ms) → Finds (now (m .entry)) depth (getOf (now (name .entry)) (entries ms)) r) ⌝ }
-{
-    let mut cursor = first(m, at, b'}');
-    let mut left: usize = 128;
-    while left > 0 {
-        match cursor {
-            Cursor::Done => return Found::Nothing,
-            Cursor::At(i) => {
-                let e = entry_at(m, i, depth);
-                let same = name_is(m, i, name);
-                if same {
-                    return Found::At(e.value);
-                }
-                cursor = e.next;
-                left -= 1;
-            }
-        }
-    }
-    Found::Nothing
-}
-
-// A string's text: a part of the manifest, or of the work buffer where it was decoded.
-pub struct TextAt {
-    pub work: bool,
-    pub start: usize,
-    pub len: usize,
-}
-
-// The text of the string at a place; it is decoded into w only where it has an escape.
-pub fn read_text(m: &[u8], at: usize, w: &mut [u8]) -> TextAt
-    requires { ⌜ 1024 ≤ length (now w) ⌝ }
-    ensures { λ r. ⌜ ((d : ℕ) (s : List ℕ) → Stands (now (m .entry)) d at (str s) → TextRead (now (m .entry)) (now (w .entry)) (now (w .exit)) s r) ⌝ }
-{
-    if at >= m.len() {
-        return TextAt {
-            work: false,
-            start: 0,
-            len: 0,
-        };
-    }
-    let end = plain_end(m, at + 1);
-    if end < m.len() {
-        if m[end] == b'"' {
-            return TextAt {
-                work: false,
-                start: at + 1,
-                len: end - (at + 1),
-            };
-        }
-    }
-    let read = decode(m, at + 1, w);
-    match read {
-        Text::Fault(_) => TextAt {
-            work: true,
-            start: 0,
-            len: 0,
-        },
-        Text::End(_, n) => TextAt {
-            work: true,
-            start: 0,
-            len: n,
-        },
-    }
-}
-
-// A part of a slice, as far as it goes.
-fn part_of(s: &[u8], start: usize, len: usize) -> &[u8]
-    ensures { λ r. ⌜ now r ≡ take len (drop start (now (s .entry))) ⌝ }
-{
-    if start >= s.len() {
-        return &s[0..0];
-    }
-    if len <= s.len() - start {
-        return &s[start..start + len];
-    }
-    &s[start..]
-}
-
-// The text itself: a part of one of two lent slices.
-pub fn text_at<'a>(m: &'a [u8], w: &'a [u8], t: TextAt) -> &'a [u8]
-    ensures { λ r. ⌜ now r ≡ textOf (now (m .entry)) (now (w .entry)) t ⌝ }
-{
-    let work = t.work;
-    let start = t.start;
-    let len = t.len;
-    if work {
-        part_of(w, start, len)
-    } else {
-        part_of(m, start, len)
-    }
 }
 
 // How long a byte order mark is that stands first.
@@ -1316,24 +1112,423 @@ fn mark(m: &[u8]) -> usize
     3
 }
 
-// A manifest: where its root value stands, or its first fault.
-pub fn root(m: &[u8]) -> Scan
-    ensures { λ r. ⌜ Root (now (m .entry)) r ⌝ }
+// What a check of a manifest finds: the place of its root value, or its first fault.
+pub enum Checked {
+    Root(usize),
+    Fault(Fault),
+}
+
+// A manifest, judged in one pass. Its root's place is behind a byte order mark and white space.
+pub fn check(m: &[u8]) -> Checked
+    ensures { λ r. ⌜ checkedOf (now (m .entry)) r ≡ checkOf (now (m .entry)) ⌝ }
 {
-    if m.len() > 16384 {
-        return Scan::Fault(Fault::Beyond);
+    if m.len() > SIZE {
+        return Checked::Fault(Fault::Beyond);
     }
     let from = mark(m);
     let start = skip_space(m, from);
-    let read = value(m, start, 16);
+    let read = value(m, start, DEPTH);
     match read {
-        Scan::Fault(f) => Scan::Fault(f),
+        Scan::Fault(f) => Checked::Fault(f),
         Scan::End(end) => {
             let last = skip_space(m, end);
             if last < m.len() {
-                return Scan::Fault(Fault::Malformed);
+                return Checked::Fault(Fault::Malformed);
             }
-            Scan::End(start)
+            Checked::Root(start)
         }
+    }
+}
+
+// The same as 01's number; 0 for a manifest without fault.
+#[no_mangle]
+pub extern "C" fn package_json_check(m: &[u8]) -> u8
+    ensures { λ r. ⌜ r ≡ numberOf (checkOf (now (m .entry))) ⌝ }
+{
+    let found = check(m);
+    match found {
+        Checked::Root(_) => 0,
+        Checked::Fault(f) => number(f),
+    }
+}
+
+fn number(f: Fault) -> u8
+    ensures { λ r. ⌜ r ≡ faultNumber (faultOf f) ⌝ }
+{
+    match f {
+        Fault::Malformed => 7,
+        Fault::Beyond => 40,
+        Fault::Twice => 41,
+    }
+}
+
+// A place in a manifest, if what was sought stands there.
+pub enum Cursor {
+    At(usize),
+    Nothing,
+}
+
+// The kinds of values: all that anyone asks.
+pub enum Kind {
+    Scalar,
+    String,
+    Array,
+    Object,
+    Nothing,
+}
+
+// The kind of the value that begins at a place.
+pub fn kind_at(m: &[u8], at: usize) -> Kind
+    ensures { λ r. ⌜ kindOf r ≡ kindAt (drop at (now (m .entry))) ⌝ }
+{
+    if at >= m.len() {
+        return Kind::Nothing;
+    }
+    let b = m[at];
+    if b == b'"' {
+        return Kind::String;
+    }
+    if b == b'[' {
+        return Kind::Array;
+    }
+    if b == b'{' {
+        return Kind::Object;
+    }
+    let starts = starts_value(b);
+    if starts {
+        return Kind::Scalar;
+    }
+    Kind::Nothing
+}
+
+// Behind the quote that closes a string.
+fn text_end(m: &[u8], at: usize) -> Cursor
+    ensures { λ r. ⌜ Ahead at r × (placed (now (m .entry)) r ≡ textEnd false (drop at (now (m .entry)))) ⌝ }
+{
+    let mut i = at;
+    while i < m.len() {
+        let stop = plain_end(m, i);
+        if stop >= m.len() {
+            return Cursor::Nothing;
+        }
+        if m[stop] == b'"' {
+            return Cursor::At(stop + 1);
+        }
+        if stop + 1 >= m.len() {
+            return Cursor::Nothing;
+        }
+        i = stop + 2;
+    }
+    Cursor::Nothing
+}
+
+fn opens_bracket(b: u8) -> bool
+    ensures { λ r. ⌜ r ≡ opensBracket b ⌝ }
+{
+    if b == b'[' {
+        return true;
+    }
+    b == b'{'
+}
+
+fn closes_bracket(b: u8) -> bool
+    ensures { λ r. ⌜ r ≡ closesBracket b ⌝ }
+{
+    if b == b']' {
+        return true;
+    }
+    b == b'}'
+}
+
+// A step inside brackets: on, with so many open; out of the last one; or the bytes end.
+enum Hop {
+    On(usize, usize),
+    Out(usize),
+    Cut,
+}
+
+// One byte, or one whole text, n brackets being open.
+fn onward(m: &[u8], i: usize, n: usize) -> Hop
+    requires { ⌜ (i < length (now m)) × (n ≤ i) ⌝ }
+    ensures { λ r. ⌜ Hops (now (m .entry)) i n r ⌝ }
+{
+    let b = m[i];
+    if b == b'"' {
+        let end = text_end(m, i + 1);
+        return match end {
+            Cursor::Nothing => Hop::Cut,
+            Cursor::At(j) => Hop::On(j, n),
+        };
+    }
+    let opens = opens_bracket(b);
+    if opens {
+        return Hop::On(i + 1, n + 1);
+    }
+    let closes = closes_bracket(b);
+    if closes {
+        if n == 0 {
+            return Hop::Out(i + 1);
+        }
+        return Hop::On(i + 1, n - 1);
+    }
+    Hop::On(i + 1, n)
+}
+
+// Behind the bracket that closes an array or object.
+fn bracket_end(m: &[u8], at: usize) -> Cursor
+    ensures { λ r. ⌜ placed (now (m .entry)) r ≡ bracketEnd outside 0 (drop at (now (m .entry))) ⌝ }
+{
+    let mut i = at;
+    let mut n: usize = 0;
+    while i < m.len() {
+        let h = onward(m, i, n);
+        match h {
+            Hop::Cut => return Cursor::Nothing,
+            Hop::Out(j) => return Cursor::At(j),
+            Hop::On(j, k) => {
+                i = j;
+                n = k;
+            }
+        }
+    }
+    Cursor::Nothing
+}
+
+// Behind a value.
+fn value_end(m: &[u8], at: usize) -> Cursor
+    ensures { λ r. ⌜ placed (now (m .entry)) r ≡ valueEnd (drop at (now (m .entry))) ⌝ }
+{
+    if at >= m.len() {
+        return Cursor::Nothing;
+    }
+    let b = m[at];
+    if b == b'"' {
+        return text_end(m, at + 1);
+    }
+    let opens = opens_bracket(b);
+    if opens {
+        return bracket_end(m, at + 1);
+    }
+    let read = value(m, at, 0);
+    match read {
+        Scan::Fault(_) => Cursor::Nothing,
+        Scan::End(end) => Cursor::At(end),
+    }
+}
+
+// Behind the byte c and white space.
+fn behind(m: &[u8], at: usize, c: u8) -> Cursor
+    ensures { λ r. ⌜ placed (now (m .entry)) r ≡ behindOf c (drop at (now (m .entry))) ⌝ }
+{
+    if at < m.len() {
+        if m[at] == c {
+            return Cursor::At(skip_space(m, at + 1));
+        }
+    }
+    Cursor::Nothing
+}
+
+// What stands behind an opening bracket, if it is no closing one.
+fn unless_closed(m: &[u8], c: Cursor) -> Cursor
+    ensures { λ r. ⌜ placed (now (m .entry)) r ≡ thenAt (placed (now (m .entry)) c) unlessClosed ⌝ }
+{
+    match c {
+        Cursor::Nothing => Cursor::Nothing,
+        Cursor::At(i) => {
+            if i >= m.len() {
+                return Cursor::Nothing;
+            }
+            let closes = closes_bracket(m[i]);
+            if closes {
+                return Cursor::Nothing;
+            }
+            Cursor::At(i)
+        }
+    }
+}
+
+// The first member of the object at a place.
+pub fn first_member(m: &[u8], at: usize) -> Cursor
+    ensures { λ r. ⌜ placed (now (m .entry)) r ≡ firstMember (drop at (now (m .entry))) ⌝ }
+{
+    unless_closed(m, behind(m, at, b'{'))
+}
+
+// The first element of the array at a place.
+pub fn first_element(m: &[u8], at: usize) -> Cursor
+    ensures { λ r. ⌜ placed (now (m .entry)) r ≡ firstElement (drop at (now (m .entry))) ⌝ }
+{
+    unless_closed(m, behind(m, at, b'['))
+}
+
+// From an element to the next one.
+pub fn next_element(m: &[u8], at: usize) -> Cursor
+    ensures { λ r. ⌜ placed (now (m .entry)) r ≡ nextElement (drop at (now (m .entry))) ⌝ }
+{
+    let end = value_end(m, at);
+    match end {
+        Cursor::Nothing => Cursor::Nothing,
+        Cursor::At(i) => behind(m, skip_space(m, i), b','),
+    }
+}
+
+fn name_end(m: &[u8], at: usize) -> Cursor
+    ensures { λ r. ⌜ placed (now (m .entry)) r ≡ nameEnd (drop at (now (m .entry))) ⌝ }
+{
+    if at < m.len() {
+        if m[at] == b'"' {
+            return text_end(m, at + 1);
+        }
+    }
+    Cursor::Nothing
+}
+
+// From a member, which begins with its name's quote, to its value.
+pub fn member_value(m: &[u8], at: usize) -> Cursor
+    ensures { λ r. ⌜ placed (now (m .entry)) r ≡ memberValue (drop at (now (m .entry))) ⌝ }
+{
+    let end = name_end(m, at);
+    match end {
+        Cursor::Nothing => Cursor::Nothing,
+        Cursor::At(i) => behind(m, skip_space(m, i), b':'),
+    }
+}
+
+// From a member to the next one.
+pub fn next_member(m: &[u8], at: usize) -> Cursor
+    ensures { λ r. ⌜ placed (now (m .entry)) r ≡ nextMember (drop at (now (m .entry))) ⌝ }
+{
+    let value = member_value(m, at);
+    match value {
+        Cursor::Nothing => Cursor::Nothing,
+        Cursor::At(i) => next_element(m, i),
+    }
+}
+
+// The i-th member of the object at a place, from 0.
+pub fn member(m: &[u8], at: usize, i: usize) -> Cursor
+    ensures { λ r. ⌜ placed (now (m .entry)) r ≡ memberAt i (drop at (now (m .entry))) ⌝ }
+{
+    let mut c = first_member(m, at);
+    let mut left = i;
+    while left > 0 {
+        match c {
+            Cursor::Nothing => return Cursor::Nothing,
+            Cursor::At(here) => {
+                c = next_member(m, here);
+                left -= 1;
+            }
+        }
+    }
+    c
+}
+
+// The i-th element of the array at a place, from 0.
+pub fn element(m: &[u8], at: usize, i: usize) -> Cursor
+    ensures { λ r. ⌜ placed (now (m .entry)) r ≡ elementAt i (drop at (now (m .entry))) ⌝ }
+{
+    let mut c = first_element(m, at);
+    let mut left = i;
+    while left > 0 {
+        match c {
+            Cursor::Nothing => return Cursor::Nothing,
+            Cursor::At(here) => {
+                c = next_element(m, here);
+                left -= 1;
+            }
+        }
+    }
+    c
+}
+
+// Whether the string at a place is, decoded, the text `key`. A string that differs is not read to its end.
+pub fn name_is(m: &[u8], at: usize, key: &[u8]) -> bool
+    ensures { λ r. ⌜ r ≡ nameIs (now (key .entry)) (drop at (now (m .entry))) ⌝ }
+{
+    let same = same_text(m, at, key);
+    if same {
+        let read = quoted(m, at);
+        return match read {
+            Scan::Fault(_) => false,
+            Scan::End(_) => true,
+        };
+    }
+    false
+}
+
+// The value of the member with a name, in the object at a place.
+pub fn get(m: &[u8], at: usize, name: &[u8]) -> Cursor
+    ensures { λ r. ⌜ placed (now (m .entry)) r ≡ getAt (now (name .entry)) (drop at (now (m .entry))) ⌝ }
+{
+    let mut c = first_member(m, at);
+    let mut left = MEMBERS;
+    while left > 0 {
+        match c {
+            Cursor::Nothing => return Cursor::Nothing,
+            Cursor::At(here) => {
+                let same = name_is(m, here, name);
+                if same {
+                    return member_value(m, here);
+                }
+                c = next_member(m, here);
+                left -= 1;
+            }
+        }
+    }
+    Cursor::Nothing
+}
+
+// Where a string's text stands: a part of the manifest, or the first bytes of the work buffer, into which it was decoded.
+pub enum TextAt {
+    Manifest(usize, usize),
+    Work(usize),
+    Nothing,
+}
+
+fn quote_at(m: &[u8], at: usize) -> bool
+    ensures { λ r. ⌜ r ≡ startsQuote (drop at (now (m .entry))) ⌝ }
+{
+    if at < m.len() {
+        return m[at] == b'"';
+    }
+    false
+}
+
+// The text of the string at a place. It is decoded into w only where it has an escape.
+pub fn read_text(m: &[u8], at: usize, w: &mut [u8]) -> TextAt
+    ensures { λ r. ⌜ told (now (m .entry)) (now (w .exit)) r ≡ textAt (drop at (now (m .entry))) (now (w .entry)) ⌝ }
+{
+    let read = quoted(m, at);
+    match read {
+        Scan::Fault(_) => TextAt::Nothing,
+        Scan::End(_) => {
+            if at >= m.len() {
+                return TextAt::Nothing;
+            }
+            let stop = plain_end(m, at + 1);
+            let plain = quote_at(m, stop);
+            if plain {
+                return TextAt::Manifest(at + 1, stop - (at + 1));
+            }
+            if w.len() < ROOM {
+                return TextAt::Nothing;
+            }
+            let text = decode(m, at + 1, w);
+            match text {
+                Text::Fault(_) => TextAt::Nothing,
+                Text::End(_, n) => TextAt::Work(n),
+            }
+        }
+    }
+}
+
+// The text itself: a part of one of two lent slices.
+pub fn text_at<'a>(m: &'a [u8], w: &'a [u8], t: TextAt) -> &'a [u8]
+    ensures { λ r. ⌜ now r ≡ orEmpty (textOf (now (m .entry)) (now (w .entry)) t) ⌝ }
+{
+    match t {
+        TextAt::Manifest(start, n) => text::part(m, start, n),
+        TextAt::Work(n) => text::part(w, 0, n),
+        TextAt::Nothing => text::part(m, 0, 0),
     }
 }

@@ -1,19 +1,19 @@
 -- The loops over components: one part between slashes, and what is left behind the next slash.
-use mathlib.Core.Path.{_≡_, refl, sym, _∙_, ap}
-use Prim.Native.Nat.{ℕ, zero, suc, _+_, _-_, _≤_, _<_}
+use mathlib.Core.Path.{_≡_, refl, sym, _∙_}
+use Prim.Native.Nat.{ℕ, _+_, _-_, _≤_, _<_}
 use native.Mathlib.Omega.{arith}
-use mathlib.Core.Bool.{Bool, true, false, not, _&&_, _||_}
-use mathlib.Core.List.{List, [], _∷_, _++_, flatMap}
+use mathlib.Core.Bool.{Bool, true, false, not, _||_, false≢true}
+use mathlib.Core.List.{List, [], _∷_, _++_}
 use lib.ListN.{length, drop, take, getD, length-take}
 use lib.Seq.{take-suc}
 use lib.Dec.{eqb, leb, ltb}
-use borrow.Author.Tests.{ltb-true, ltb-false, leb-true, leb-false, eqb-true, eq-eqb, ne-eqb}
-use Rattle.definition.specs.Text.{text, slash, if_then_else_, equal, startsWith, endsWith, equalIgnoringCase, before, split, text-computes}
+use borrow.Author.Tests.{ltb-true, ltb-false, leb-true, leb-false}
+use Rattle.definition.specs.Text.{text, slash, if_then_else_, equal, startsWith, equalIgnoringCase, before, text-computes}
 use Rattle.definition.specs.TextLaws.{equal-true, startsWith-length}
 use Rattle.definition.specs.TextSteps.{first-inside}
-use Rattle.definition.specs.Path.{Component, parentDir, normal, component, push, parent, pops, Built, built, tooLong, andPath, limited, pushComponent, pushAll, pushRelative, normalizeRelative, invalidComponent, anyInvalid}
-use Rattle.definition.specs.PathLaws.{limited-fits, component-up, component-name, parts, parts-more, parts-last, rooted, not-rooted, anyInvalid-append, pushAll-append, pushRelative-append, rootOf, relative-parts, parent-short, room, room-high, relative-length}
-use Rattle.definition.specs.PathSteps.{starts-with}
+use Rattle.definition.specs.Path.{parentDir, normal, component, push, parent, pops, Built, built, tooLong, andPath, limited, pushComponent, pushAll, pushRelative, normalizeRelative, invalidComponent, anyInvalid}
+use Rattle.definition.specs.PathLaws.{limited-fits, component-up, parts, parts-more, parts-last, parts-rooted, rooted, not-rooted, anyInvalid-append, pushAll-append, pushRelative-append, rootOf, relative-parts, parent-short, room, room-high, relative-length}
+use Rattle.definition.specs.PathSteps.{starts-with, starts-empty}
 use Rattle.path.specs.Meaning.{pathAt}
 use Rattle.path.proofs.Steps.{at-fits, at-long}
 
@@ -80,21 +80,19 @@ module _ (b : List ℕ) (n : ℕ) (s : List ℕ) where
       go (built p) = sym (built-all (limited (push p s)))
       go tooLong = refl
 
-  -- `push_relative_part`
-  pub relative-none : component s ≡ [] → pathAt b n ≡ andPath (pathAt b n) (λ p. limited (pushRelative (component s) p))
-  unfolding pushRelative
-  relative-none e = rw e (go (leb n 2048) refl)
+  -- `push_relative_part`: where ".." pops, it goes as `push_part`
+  pub relative-same : (equal s (text "..") ≡ true → pops (take n b) ≡ true) → andPath (pathAt b n) (λ p. pushAll (component s) p) ≡ andPath (pathAt b n) (λ p. limited (pushRelative (component s) p))
+  unfolding component pushAll pushComponent pushRelative
+  relative-same f = go (leb n 2048) refl
     where
-      go : (u : Bool) → leb n 2048 ≡ u → pathAt b n ≡ andPath (pathAt b n) (λ p. limited (pushRelative [] p))
-      go true h = rw (at-fits b n (leb-true _ _ h)) (sym (limited-fits (take n b) (let k : n ≤ 2048 = leb-true _ _ h in omega (arith, length-take n b))))
-      go false h = rw (at-long b n (leb-false _ _ h))
+      part : (u v : Bool) → n ≤ 2048 → (v ≡ true → pops (take n b) ≡ true)
+          → pushAll (if u then [] else if v then parentDir ∷ [] else normal s ∷ []) (take n b) ≡ limited (pushRelative (if u then [] else if v then parentDir ∷ [] else normal s ∷ []) (take n b))
+      part true v h f = sym (limited-fits (take n b) (omega (arith, length-take n b)))
+      part false true h f = rw (f refl) (built-all (limited (parent (take n b))))
+      part false false h f = built-all (limited (push (take n b) s))
 
-  pub relative-up : equal s (text "..") ≡ true → pops (take n b) ≡ true → andPath (pathAt b n) (λ p. built (parent p)) ≡ andPath (pathAt b n) (λ p. limited (pushRelative (component s) p))
-  unfolding pushRelative
-  relative-up e f = rw (component-up s e) (go (leb n 2048) refl)
-    where
-      go : (u : Bool) → leb n 2048 ≡ u → andPath (pathAt b n) (λ p. built (parent p)) ≡ andPath (pathAt b n) (λ p. limited (pushRelative (parentDir ∷ []) p))
-      go true h = rw (at-fits b n (leb-true _ _ h), f, parent-fits (leb-true _ _ h))
+      go : (u : Bool) → leb n 2048 ≡ u → andPath (pathAt b n) (λ p. pushAll (component s) p) ≡ andPath (pathAt b n) (λ p. limited (pushRelative (component s) p))
+      go true h = rw (at-fits b n (leb-true _ _ h)) (part (equal s [] || equal s (text ".")) (equal s (text "..")) (leb-true _ _ h) f)
       go false h = rw (at-long b n (leb-false _ _ h))
 
   pub relative-stays : equal s (text "..") ≡ true → pops (take n b) ≡ false → andPath (pathAt b n) (λ p. limited (push p s)) ≡ andPath (pathAt b n) (λ p. limited (pushRelative (component s) p))
@@ -104,10 +102,6 @@ module _ (b : List ℕ) (n : ℕ) (s : List ℕ) where
       go : (u : Bool) → leb n 2048 ≡ u → andPath (pathAt b n) (λ p. limited (push p (text ".."))) ≡ andPath (pathAt b n) (λ p. limited (pushRelative (parentDir ∷ []) p))
       go true h = rw (at-fits b n (leb-true _ _ h), f)
       go false h = rw (at-long b n (leb-false _ _ h))
-
-  pub relative-name : component s ≡ normal s ∷ [] → andPath (pathAt b n) (λ p. limited (push p s)) ≡ andPath (pathAt b n) (λ p. limited (pushRelative (component s) p))
-  unfolding pushRelative
-  relative-name e = rw e
 
 -- `push_parts`
 module _ (x y : Built) (sub : List ℕ) (at e : ℕ) (h : e ≡ at + length (before slash (drop at sub)))
@@ -166,12 +160,8 @@ pub record Going (b : Built) (p : List ℕ) (at : ℕ) : Type 0 where
   pub short : room so ≤ at
   pub rest : pushRelative (parts (drop at p)) so ≡ normalizeRelative p
 
-parts-rooted : (b : ℕ) (s : List ℕ) → eqb slash b ≡ true → parts (b ∷ s) ≡ parts s
-unfolding parts split flatMap
-parts-rooted b s h = rw (eq-eqb b slash (sym (eqb-true slash b h))) (unfold component equal in refl)
-
-pub going-start : (b : Built) (p : List ℕ) → b ≡ limited (rootOf p) → Going b p (length (rootOf p))
-going-start b p e = go (startsWith (text "/") p) p refl e
+pub going-start : (b : Built) (p : List ℕ) (at : ℕ) → b ≡ limited (rootOf p) → at ≡ length (rootOf p) → Going b p at
+going-start b p at e f = rw f (go (startsWith (text "/") p) p refl e)
   where
     go : (u : Bool) (p : List ℕ) → startsWith (text "/") p ≡ u → b ≡ limited (rootOf p) → Going b p (length (rootOf p))
     go false p h e =
@@ -182,7 +172,7 @@ going-start b p e = go (startsWith (text "/") p) p refl e
           short = unfold room text-computes in (omega arith);
           rest = sym (relative-parts p ∙ rw r);
         }
-    go true [] h e = absurd (let z : _≡_ {A = ℕ} 0 1 = unfold startsWith in (cc h) in let y : ⊥ = omega arith in y)
+    go true [] h e = absurd (false≢true (sym (starts-empty slash [] refl) ∙ h))
     go true (c ∷ s) h e =
         let r : rootOf (c ∷ s) ≡ text "/" = unfold rootOf in (rw h) in
         let k : eqb slash c ≡ true = sym (starts-with slash (c ∷ s) (omega arith)) ∙ h in

@@ -1,9 +1,9 @@
 -- A path in a buffer of 2,048 bytes, by its length.
 use mathlib.Core.Path.{_≡_, refl, sym, _∙_, ap}
-use Prim.Native.Nat.{ℕ, zero, suc, _+_, _-_, _≤_, _<_}
+use Prim.Native.Nat.{ℕ, _+_, _-_, _≤_, _<_}
 use native.Mathlib.Omega.{arith}
 use mathlib.Core.Bool.{Bool, true, false}
-use mathlib.Core.List.{List, [], _∷_, _++_}
+use mathlib.Core.List.{List, _++_}
 use lib.ListN.{length, drop, take, getD, length-append, length-take}
 use lib.Seq.{length-take-le, take-length, take-take, getD-take, paste, take-paste}
 use lib.Dec.{leb, ltb}

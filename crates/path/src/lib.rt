@@ -1,6 +1,6 @@
 // Paths: a path under construction, and path.rs.
 ghost use mathlib.Core.Path.{_≡_};
-ghost use mathlib.Core.List.{[], _++_};
+ghost use mathlib.Core.List.{[]};
 ghost use Prim.Native.Nat.{_≤_};
 ghost use lib.ListN.{length, take};
 ghost use Rattle.definition.specs.Path.{built, andPath, limited, push, parent, addExtension, addNameAndExtension, manifestOf, nameOf, component, pushAll, normalizeWith, pops, pushRelative, normalizeRelative, anyInvalid, isInvalidExportsTarget};
@@ -157,9 +157,7 @@ impl PathBuf {
     pub fn from(text: &[u8]) -> PathBuf
         ensures { λ r. ⌜ pathOf r ≡ limited (now (text .entry)) ⌝ }
     {
-        let mut bytes = [0u8; 2048];
-        let len = put(&mut bytes, 0, text);
-        PathBuf { bytes, len }
+        PathBuf::new().append(text)
     }
 
     pub fn over_long(self) -> bool
@@ -230,26 +228,6 @@ fn root(p: &[u8]) -> &[u8]
     if p[0] == b'/' { &p[0..1] } else { &p[0..0] }
 }
 
-// As `push_part`, but ".." stays where nothing is left to pop.
-fn push_relative_part(b: &mut [u8; 2048], n: usize, part: &[u8]) -> usize
-    requires { ⌜ length (now b) ≡ 2048 ⌝ }
-    ensures { λ r. ⌜ length (now (b .exit)) ≡ 2048 ⌝ }
-    ensures { λ r. ⌜ pathAt (now (b .exit)) r ≡ andPath (pathAt (now (b .entry)) n) (λ p. limited (pushRelative (component (now (part .entry))) p)) ⌝ }
-{
-    if part.len() == 0 {
-        return n;
-    }
-    if text::equal(part, b".") {
-        return n;
-    }
-    if text::equal(part, b"..") {
-        if pops(first(b, n)) {
-            return up(b, n);
-        }
-    }
-    join(b, n, part)
-}
-
 // Whether a path has a component to pop.
 fn pops(p: &[u8]) -> bool
     ensures { λ r. ⌜ r ≡ pops (now (p .entry)) ⌝ }
@@ -258,6 +236,20 @@ fn pops(p: &[u8]) -> bool
         return false;
     }
     !text::equal(p, b"/")
+}
+
+// As `push_part`, but ".." stays where nothing is left to pop.
+fn push_relative_part(b: &mut [u8; 2048], n: usize, part: &[u8]) -> usize
+    requires { ⌜ length (now b) ≡ 2048 ⌝ }
+    ensures { λ r. ⌜ length (now (b .exit)) ≡ 2048 ⌝ }
+    ensures { λ r. ⌜ pathAt (now (b .exit)) r ≡ andPath (pathAt (now (b .entry)) n) (λ p. limited (pushRelative (component (now (part .entry))) p)) ⌝ }
+{
+    if text::equal(part, b"..") {
+        if !pops(first(b, n)) {
+            return join(b, n, part);
+        }
+    }
+    push_part(b, n, part)
 }
 
 // A path without ".", and without ".." behind a component.

@@ -3,3 +3,4 @@ pub mod Fragment
 pub mod Parts
 pub mod Widening
 pub mod Parsed
+pub mod Climb

@@ -1,6 +1,6 @@
 -- `Specifier::parse`: its parts from the places of the fragment and of the query. Assumes nothing.
 use mathlib.Core.Path.{_≡_, refl, sym, _∙_, ap}
-use Prim.Native.Nat.{ℕ, suc, _+_, _≤_, _<_}
+use Prim.Native.Nat.{ℕ, _+_, _≤_, _<_}
 use mathlib.Core.Bool.{Bool, true, false, not, _&&_}
 use mathlib.Core.List.{List, [], _∷_, flatMap}
 use native.Mathlib.Omega.{arith}
@@ -8,12 +8,12 @@ use borrow.Author.Tests.{eqb-true, eqb-false}
 use lib.Dec.{eqb}
 use lib.ListN.{length, drop, take, length-take}
 use lib.Seq.{take-take, length-take-le}
-use Rattle.definition.specs.Text.{if_then_else_, question, hash, containsText, before, from}
+use Rattle.definition.specs.Text.{if_then_else_, question, hash, before, from}
 use Rattle.definition.specs.TextSteps.{before-inside}
 use Rattle.definition.specs.Path.{Built, limited}
 use Rattle.definition.specs.Specifier.{parsed, emptySpecifier, beforeFragment, body, unescape, pathBefore, orEmpty, parseSpecifier}
 use Rattle.definition.specs.SpecifierLaws.{before-take}
-use Rattle.specifier.specs.Meaning.{Scanned, Parts, parts, noPath, partsOf}
+use Rattle.specifier.specs.Meaning.{Scanned, parts, noPath, partsOf}
 use Rattle.specifier.proofs.Widening.{widened, widened-some}
 
 -- what stands before the fragment is a start of the specifier
@@ -33,6 +33,10 @@ body-take (b ∷ s) = ap (λ l. b ∷ l) (fragment-take b s)
 
 pub body-inside : (s : List ℕ) → length (body s) ≤ length s
 body-inside s = omega (arith, ap length (body-take s), length-take (length (body s)) s)
+
+-- the first "?" of a part of a text is inside the text
+pub first-of-part : (s : List ℕ) (f q : ℕ) → q ≡ 0 + length (before question (drop 0 (take f s))) → q ≤ length s
+first-of-part s f q e = omega (arith, before-inside question (take f s), length-take f s)
 
 orEmpty-none : (p q f : List ℕ) → length p ≡ 0 → orEmpty p q f ≡ emptySpecifier
 unfolding orEmpty
@@ -62,9 +66,6 @@ module _ (s : List ℕ) (f q : ℕ) (escaped : Bool) (g : Scanned s f escaped) (
   size : q ≡ length (before question (body s))
   size = at ∙ ap (λ l. 0 + length (before question l)) whole ∙ omega arith
 
-  pub query-inside : q ≤ length s
-  query-inside = omega (arith, size, before-inside question (body s), body-inside s)
-
   start : take q s ≡ before question (body s)
   start =
       let l : q ≤ f = omega (arith, size, before-inside question (body s), g .place) in
@@ -86,7 +87,7 @@ module _ (s : List ℕ) (f q : ℕ) (escaped : Bool) (g : Scanned s f escaped) (
           sym (ap partsOf (orEmpty-none (pathBefore (body s)) (from question (body s)) (drop (length (body s)) s) p))
       go false h =
           let z : q ≡ 0 → ⊥ = eqb-false q 0 h in
-          let n : 0 < length (take q s) = omega (arith, length-take-le q s query-inside) in
+          let n : 0 < length (take q s) = omega (arith, length-take-le q s (first-of-part s f q at)) in
           let p : 0 < length (pathBefore (body s)) = rw path at (path-some escaped (take q s) n) in
           let u : b ≡ limited (pathBefore (body s)) = e ∙ ap limited path in
           let v : drop q (take f s) ≡ from question (body s) = ap (drop q) whole ∙ ap (λ n. drop n (body s)) size in

@@ -1,17 +1,16 @@
 -- Parts of a slice, and the tests on what is left behind a name. Assumes nothing.
-use mathlib.Core.Path.{_≡_, refl, sym, _∙_, ap}
+use mathlib.Core.Path.{_≡_, sym, _∙_, ap}
 use Prim.Native.Nat.{ℕ, suc, _+_, _-_, _≤_, _<_}
-use mathlib.Core.Bool.{Bool, true, false, _&&_, _||_, or-true}
+use mathlib.Core.Bool.{true, false, or-true}
 use mathlib.Core.List.{List, [], _∷_, _++_}
-use mathlib.Core.Option.{Option, none, some}
+use mathlib.Core.Option.{none, some}
 use native.Mathlib.Omega.{arith}
 use lib.ListN.{length, drop, take, getD, length-drop, drop-of-length-le}
 use lib.Seq.{take-all, drop-length, drop-nil, take-nil}
-use Rattle.definition.specs.Text.{text, if_then_else_, equal, startsWith, overwrite}
-use Rattle.definition.specs.TextLaws.{startsWith-length}
+use Rattle.definition.specs.Text.{text, equal, startsWith, overwrite}
 use Rattle.definition.specs.TextSteps.{equal-lengths}
 use Rattle.definition.specs.Specifier.{dotSubpath, stripPackageName}
-use Rattle.definition.specs.SpecifierLaws.{starts-at, starts-not, starts-end}
+use Rattle.definition.specs.SpecifierLaws.{starts-at, starts-not}
 
 -- a part that runs to the end
 pub to-end : (s : List ℕ) (e : ℕ) → take (length s - e) (drop e s) ≡ drop e s

@@ -1,14 +1,14 @@
 // Specifiers: `Specifier::parse`, and the functions that take the specifier of a package apart.
 use path::PathBuf;
 ghost use mathlib.Core.Path.{_≡_};
-ghost use mathlib.Core.Bool.{_&&_};
+ghost use mathlib.Core.Bool.{_&&_, _||_};
 ghost use mathlib.Core.List.{flatMap};
-ghost use Prim.Native.Nat.{ℕ, _+_, _≤_, _<_};
+ghost use Prim.Native.Nat.{_+_, _<_};
 ghost use lib.Dec.{eqb};
 ghost use lib.ListN.{length, drop, take, getD};
-ghost use Rattle.definition.specs.Text.{text, if_then_else_, startsWith, utf8, overwrite};
+ghost use Rattle.definition.specs.Text.{text, if_then_else_, equal, startsWith, containsText, utf8, overwrite};
 ghost use Rattle.definition.specs.Path.{andPath, limited, addExtension};
-ghost use Rattle.definition.specs.Specifier.{unescape, parseSpecifier, packageName, packageSubpath, dotSubpath, stripPackageName, isBare, isSpecifier};
+ghost use Rattle.definition.specs.Specifier.{unescape, parseSpecifier, packageName, packageSubpath, dotSubpath, stripPackageName, isBare, normalizedSpecifier, isSpecifier};
 ghost use Rattle.path.specs.Meaning.{pathAt, pathOf};
 ghost use Rattle.specifier.specs.Meaning.{Scanned, partsOf, meant, tailOf};
 
@@ -132,6 +132,34 @@ pub fn check(s: &[u8]) -> bool
         return false;
     }
     text::is_utf8(s)
+}
+
+// Whether a second walk may be due: the specifier goes up twice in a row.
+pub fn may_climb(s: &[u8]) -> bool
+    ensures { λ r. ⌜ r ≡ containsText (text "/../..") (now (s .entry)) || containsText (text "../../") (now (s .entry)) ⌝ }
+{
+    if text::contains_text(s, b"/../..") {
+        return true;
+    }
+    text::contains_text(s, b"../../")
+}
+
+// The specifier of the second walk, with the "/" at its end kept.
+pub fn normalized(s: &[u8]) -> PathBuf
+    ensures { λ r. ⌜ pathOf r ≡ andPath (limited (now (s .entry))) (λ p. limited (normalizedSpecifier p)) ⌝ }
+{
+    let p = path::normalize_relative(s);
+    if text::ends_with(s, b"/") {
+        return p.append(b"/");
+    }
+    p
+}
+
+// Whether a normalised specifier leaves the directory of the first walk.
+pub fn climbs(s: &[u8]) -> bool
+    ensures { λ r. ⌜ r ≡ equal (packageName (now (s .entry))) (text "..") ⌝ }
+{
+    text::equal(package_name(s), b"..")
 }
 
 // Where the fragment begins, and whether a "#" before it is escaped.

@@ -7,60 +7,24 @@ use Rattle.definition.specs.ListingSteps.{pathLengthAt, contentsMarkAt, rows-pl
 use borrow.Author.Needs.{needs}
 use Rattle.listing.proofs.clamped.Statement.{statement}
 use Rattle.listing.proofs.clamped.Tie as tie
-use Rattle.listing.proofs.clamped.Reads as reads
-use Rattle.listing.proofs.clamped.Lts as lts
-use Rattle.listing.proofs.contents_length.Reads as contents-length-reads
-use Rattle.listing.proofs.number.Reads as number-reads
-use Rattle.listing.proofs.reach.Reads as reach-reads
 
--- src/lib.rt:85:27
-mul-number : tie.Need-mul-number
-mul-number c = search needs
-
--- src/lib.rt:85:23
-add-number : tie.Need-add-number
-add-number c = search needs
-
--- src/lib.rt:85:9
-number-requires : tie.Need-number-requires
-number-requires c κs = search needs
-
--- src/lib.rt:86:27
-mul-number-2 : tie.Need-mul-number-2
-mul-number-2 c = search needs
-
--- src/lib.rt:86:23
-add-number-2 : tie.Need-add-number-2
-add-number-2 c = search needs
-
--- src/lib.rt:86:35
-mul-number-3 : tie.Need-mul-number-3
-mul-number-3 c = search needs
-
--- src/lib.rt:86:23
-add-number-3 : tie.Need-add-number-3
-add-number-3 c = search needs
-
--- src/lib.rt:86:9
-number-requires-2 : tie.Need-number-requires-2
-number-requires-2 c κs = search needs
-
--- src/lib.rt:87:9
-reach-requires : tie.Need-reach-requires
-reach-requires c κs = search needs
-
--- src/lib.rt:88:27
-contents-length-requires : tie.Need-contents-length-requires
-contents-length-requires c κs = search needs
-
--- src/lib.rt:88:9
-reach-requires-2 : tie.Need-reach-requires-2
-reach-requires-2 c κs = search needs
-
--- src/lib.rt:81:1
-returns : tie.Need-returns
+pub clamped-spec : {M : Type 1} → statement M
 unfolding pathLengthAt contentsMarkAt
-returns c =
+clamped-spec =
+    tie.close
+    (tie.spec
+    (λ c. search needs)
+    (λ c. search needs)
+    (λ c κs. search needs)
+    (λ c. search needs)
+    (λ c. search needs)
+    (λ c. search needs)
+    (λ c. search needs)
+    (λ c κs. search needs)
+    (λ c κs. search needs)
+    (λ c κs. search needs)
+    (λ c κs. search needs)
+    (λ c.
     let s = c .before .before .before .before .before .before in
     let a = s .args in
     let l = a .l .now in
@@ -74,21 +38,4 @@ returns c =
       ends = omega arith;
       inside = omega arith;
       rows = rw m (rows-place l (a .i) (a .at) _ _ (omega (arith, s .pre .0, s .pre .2)) (s .pre .3) e x);
-    }
-
-pub clamped-spec : {M : Type 1} → statement M
-clamped-spec =
-    tie.close
-    (tie.spec
-    mul-number
-    add-number
-    number-requires
-    mul-number-2
-    add-number-2
-    mul-number-3
-    add-number-3
-    number-requires-2
-    reach-requires
-    contents-length-requires
-    reach-requires-2
-    returns)
+    }))

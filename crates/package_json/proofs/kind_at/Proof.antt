@@ -1,19 +1,22 @@
-use mathlib.Core.Path.{_≡_, refl, sym, _∙_, ap}
-use Prim.Native.Nat.{suc, _≤_, _<_, _-_, _+_, _*_}
-use Rattle.package_json.proofs.Places.{kind-text, kind-array, kind-object, kind-scalar, outside}
+use mathlib.Core.Path.{sym, _∙_}
+use Prim.Native.Nat.{_-_}
 use borrow.Author.Needs.{needs}
+use Rattle.package_json.proofs.Rules.{here, past}
+use Rattle.definition.specs.JsonAt.{kindAt}
+use borrow.Author.Tests.{eq-eqb, ne-eqb}
 use Rattle.package_json.proofs.kind_at.Statement.{statement}
 use Rattle.package_json.proofs.kind_at.Tie as tie
-use Rattle.package_json.proofs.kind_at.Reads as reads
-use Rattle.package_json.proofs.kind_at.Lts as lts
 
 pub kind-at-spec : {M : Type 1} → statement M
+unfolding kindAt
 kind-at-spec =
     tie.close
     (tie.spec
+    (λ c. rw (past (c .before .before .args .m .now) (c .before .before .args .at) (c .if1 .taken)))
     (λ c. search needs)
-    (λ c. λ d j h. kind-text h (c .before .before .if1 .taken) (c .if2 .taken))
-    (λ c. λ d j h. kind-array h (c .before .before .before .if1 .taken) (c .if3 .taken))
-    (λ c. λ d j h. kind-object h (c .before .before .before .before .if1 .taken) (c .if4 .taken))
-    (λ c. λ d j h. kind-scalar h (c .before .before .before .before .if1 .taken) (c .before .before .if2 .left) (c .before .if3 .left) (c .if4 .left))
-    (λ c. λ d j h. absurd (outside h (c .if1 .left))))
+    (λ c. rw (here (c .before .before .before .before .args .m .now) (c .before .before .before .before .args .at) (c .before .before .if1 .left)) (rw (eq-eqb _ 34 (c .if2 .taken))))
+    (λ c. rw (here (c .before .before .before .before .before .args .m .now) (c .before .before .before .before .before .args .at) (c .before .before .before .if1 .left)) (rw (ne-eqb _ 34 (c .before .if2 .left), eq-eqb _ 91 (c .if3 .taken))))
+    (λ c. rw (here (c .before .before .before .before .before .before .args .m .now) (c .before .before .before .before .before .before .args .at) (c .before .before .before .before .if1 .left)) (rw (ne-eqb _ 34 (c .before .before .if2 .left), ne-eqb _ 91 (c .before .if3 .left), eq-eqb _ 123 (c .if4 .taken))))
+    (λ c κs. search needs)
+    (λ c. rw (here (c .before .before .before .before .before .before .before .before .args .m .now) (c .before .before .before .before .before .before .before .before .args .at) (c .before .before .before .before .before .before .if1 .left)) (rw (ne-eqb _ 34 (c .before .before .before .before .if2 .left), ne-eqb _ 91 (c .before .before .before .if3 .left), ne-eqb _ 123 (c .before .before .if4 .left), sym (c .before .starts-value .ensures) ∙ c .if5 .taken)))
+    (λ c. rw (here (c .before .before .before .before .before .before .before .before .args .m .now) (c .before .before .before .before .before .before .before .before .args .at) (c .before .before .before .before .before .before .if1 .left)) (rw (ne-eqb _ 34 (c .before .before .before .before .if2 .left), ne-eqb _ 91 (c .before .before .before .if3 .left), ne-eqb _ 123 (c .before .before .if4 .left), sym (c .before .starts-value .ensures) ∙ c .if5 .left))))

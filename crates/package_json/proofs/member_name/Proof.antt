@@ -1,8 +1,11 @@
-use mathlib.Core.Path.{refl}
-use Prim.Native.Nat.{_-_}
+use mathlib.Core.Path.{refl, _∙_, ap}
+use mathlib.Core.List.{_∷_}
+use Prim.Native.Nat.{_+_, _-_}
+use lib.ListN.{drop}
 use native.Mathlib.Omega.{arith}
 use borrow.Author.Needs.{needs}
 use Rattle.package_json.proofs.Strings.{quoted-out, quoted-string, text-plain}
+use Rattle.package_json.proofs.Rules.{here}
 use Rattle.package_json.proofs.Names.{name-read, name-fault}
 use Rattle.package_json.proofs.Laws.{was-end, was-fault}
 use Rattle.package_json.proofs.member_name.Statement.{statement}
@@ -24,7 +27,7 @@ member-name-spec =
     (λ c. omega (arith, c .before .before .before .plain-end .ensures))
     (λ c. search needs)
     (λ c κs. search needs)
-    (λ c. λ ns h. let q = was-end (c .before .before .before .before .before .before .before .before .before .before .quoted .ensures) (c .before .before .before .before .before .before .before .before .read2 .given .1) in name-read (c .before .before .before .before .before .before .before .before .before .before .before .before .before .before .args .m .now) ns (c .before .before .before .before .before .before .before .before .before .before .before .before .before .before .args .at) _ _ (q .0) (c .fresh .result) (q .1) (text-plain _ _ (c .before .before .before .before .before .plain-end .result) (quoted-string (c .before .before .before .before .before .before .before .before .before .before .before .before .before .before .args .m .now) (c .before .before .before .before .before .before .before .before .before .before .before .before .before .before .args .at) _ _ (c .before .before .before .before .before .before .if1 .left) (q .1)) (c .before .before .before .before .before .plain-end .ensures) (c .before .before .before .before .if2 .taken) (c .before .before .if3 .taken)) (c .fresh .ensures ns h))
+    (λ c. λ ns h. let q = was-end (c .before .before .before .before .before .before .before .before .before .before .quoted .ensures) (c .before .before .before .before .before .before .before .before .read2 .given .1) in name-read (c .before .before .before .before .before .before .before .before .before .before .before .before .before .before .args .m .now) ns (c .before .before .before .before .before .before .before .before .before .before .before .before .before .before .args .at) _ _ (q .0) (c .fresh .result) (q .1) (text-plain _ _ (c .before .before .before .before .before .plain-end .result) (drop (c .before .before .before .before .before .plain-end .result + 1) (c .before .before .before .before .before .before .before .before .before .before .before .before .before .before .args .m .now)) (quoted-string (c .before .before .before .before .before .before .before .before .before .before .before .before .before .before .args .m .now) (c .before .before .before .before .before .before .before .before .before .before .before .before .before .before .args .at) _ _ (c .before .before .before .before .before .before .if1 .left) (q .1)) (c .before .before .before .before .before .plain-end .ensures) (here (c .before .before .before .before .before .before .before .before .before .before .before .before .before .before .args .m .now) (c .before .before .before .before .before .plain-end .result) (c .before .before .before .before .if2 .taken) ∙ ap (λ x. x ∷ drop (c .before .before .before .before .before .plain-end .result + 1) (c .before .before .before .before .before .before .before .before .before .before .before .before .before .before .args .m .now)) (c .before .before .if3 .taken))) (c .fresh .ensures ns h))
     (λ c. search needs)
     (λ c κs. search needs)
     (λ c. λ ns h. name-fault (c .before .before .before .before .before .before .before .args .m .now) ns (c .before .before .before .before .before .before .before .args .at) (was-fault (c .before .before .before .quoted .ensures) (c .before .read .given .1)))

@@ -1,6 +1,6 @@
 use borrow.Author.Needs.{needs}
 use native.Mathlib.Omega.{arith}
-use mathlib.Core.Path.{_≡_, sym, _∙_, ap}
+use mathlib.Core.Path.{_≡_, _∙_, ap}
 use Prim.Native.Nat.{_-_, _≤_}
 use lib.ListN.{length}
 use Rattle.definition.specs.Text.{slash}
@@ -31,7 +31,7 @@ normalize-relative-spec =
     (λ c.
     let p = c .before .before .before .before .args .p .now in
     let e = c .before .root .ensures in
-    (rw e (root-short p), search needs, rw e (going-start (pathOf (c .from2 .result)) p (c .from2 .ensures ∙ ap limited e))))
+    (omega (arith, ap length e, root-short p), search needs, going-start (pathOf (c .from2 .result)) p _ (c .from2 .ensures ∙ ap limited e) (ap length e)))
     (λ c κs. search needs)
     (λ c. search needs)
     (λ c. search needs)

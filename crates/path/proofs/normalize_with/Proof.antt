@@ -1,6 +1,6 @@
 use borrow.Author.Needs.{needs}
 use native.Mathlib.Omega.{arith}
-use mathlib.Core.Path.{_≡_, sym, _∙_}
+use mathlib.Core.Path.{sym, _∙_}
 use Rattle.definition.specs.PathLaws.{with-empty, with-rooted, with-parts}
 use Rattle.path.proofs.normalize_with.Statement.{statement}
 use Rattle.path.proofs.normalize_with.Tie as tie

@@ -1,5 +1,5 @@
 use borrow.Author.Needs.{needs}
-use mathlib.Core.Path.{_≡_, sym, _∙_}
+use mathlib.Core.Path.{sym, _∙_}
 use Rattle.definition.specs.PathLaws.{component-empty, component-dot, component-name}
 use Rattle.path.proofs.Parts.{push-none, push-up, push-name}
 use Rattle.path.proofs.push_part.Statement.{statement}

@@ -1,9 +1,10 @@
 use borrow.Author.Needs.{needs}
-use mathlib.Core.Path.{_≡_, sym, _∙_, ap}
+use borrow.Author.Tests.{not-true, not-false}
+use mathlib.Core.Path.{sym, _∙_, ap}
+use mathlib.Core.Bool.{true≢false}
 use mathlib.Core.Logic.{⊎-elim}
 use Rattle.definition.specs.Path.{pops}
-use Rattle.definition.specs.PathLaws.{component-empty, component-dot, component-name}
-use Rattle.path.proofs.Parts.{relative-none, relative-up, relative-stays, relative-name}
+use Rattle.path.proofs.Parts.{relative-same, relative-stays}
 use Rattle.path.proofs.push_relative_part.Statement.{statement}
 use Rattle.path.proofs.push_relative_part.Tie as tie
 
@@ -11,17 +12,13 @@ pub push-relative-part-spec : {M : Type 1} → statement M
 push-relative-part-spec =
     tie.close
     (tie.spec
-    (λ c. (c .before .before .pre, relative-none _ _ _ (component-empty _ (c .if1 .taken))))
-    (λ c. search needs)
-    (λ c κs. search needs)
-    (λ c. (c .before .before .before .before .before .pre, relative-none _ _ _ (component-dot _ (sym (c .before .equal .ensures) ∙ c .if2 .taken))))
     (λ c. search needs)
     (λ c κs. search needs)
     (λ c κs. search needs)
     (λ c κs. search needs)
     (λ c κs. search needs)
-    (λ c. (c .before .before .before .before .before .before .before .before .before .before .before .before .before .before .before .before .pre, c .up .ensures ∙ relative-up _ _ _ (sym (c .before .before .before .before .before .before .before .before .before .equal2 .ensures) ∙ c .before .before .before .before .before .before .before .before .if3 .taken) (sym (c .before .before .before .before .pops .ensures ∙ ap pops (c .before .before .before .before .before .first .ensures)) ∙ c .before .before .before .if4 .taken)))
+    (λ c. (c .join .ensures .0, c .join .ensures .1 ∙ relative-stays _ _ _ (sym (c .before .before .before .before .before .before .before .before .equal .ensures) ∙ c .before .before .before .before .before .before .before .if1 .taken) (sym (c .before .before .before .pops .ensures ∙ ap pops (c .before .before .before .before .first .ensures)) ∙ not-true _ (c .before .before .if2 .taken))))
     (λ c κs. search needs)
     (λ c.
-    let e = sym (c .before .before .before .equal2 .ensures) in
-    (c .join .ensures .0, c .join .ensures .1 ∙ ⊎-elim (λ w. relative-stays _ _ _ (e ∙ w .0 .taken) (sym (w .4 .ensures ∙ ap pops (w .3 .ensures)) ∙ w .5 .left)) (λ w. relative-name _ _ _ (component-name _ (c .before .before .before .before .before .before .before .before .if1 .left) (sym (c .before .before .before .before .before .before .equal .ensures) ∙ c .before .before .before .before .before .if2 .left) (e ∙ w .left))) (c .before .before .if3 .came))))
+    let e = c .before .before .before .equal .ensures in
+    (c .push-part .ensures .0, c .push-part .ensures .1 ∙ relative-same _ _ _ (⊎-elim (λ w h. sym (w .4 .ensures ∙ ap pops (w .3 .ensures)) ∙ not-false _ (w .5 .left)) (λ w h. absurd (true≢false (sym h ∙ sym e ∙ w .left))) (c .before .before .if1 .came)))))
