@@ -7,31 +7,24 @@ use Prim.Native.Nat.{ℕ, zero, suc, _+_, _-_, _<_, _≤_}
 use native.Mathlib.Omega.{arith}
 use lib.ListN.{length, drop, take, getD, drop-of-length-le}
 use lib.Seq.{drop-cons}
-use lib.Dec.{eqb}
 use native.Mathlib.Numerals.{add-one}
-use borrow.Author.Tests.{eq-eqb}
 use Rattle.definition.specs.Text.{text as bytes, if_then_else_, equal, isOneOf}
-use Rattle.definition.specs.Json.{Json, scalar, str, arr, obj, Elements, noElement, element, Members, noMember, member, Read, got, value, valueBy, quoted}
-use Rattle.definition.specs.JsonSoundLaws.{quoted-sound}
+use Rattle.definition.specs.Json.{Json, scalar, str, arr, obj, Elements, noElement, element, Members, noMember, member, got, quoted}
 use Rattle.definition.specs.Settings.{textsOf}
 use Rattle.definition.specs.Specifier.{parseSpecifier}
 use Rattle.definition.specs.Exports as exports
 use Rattle.definition.specs.Exports.{Request, found, nothing, failed, overlong, orGoOn, orNext, isEmpty, pathNotExported, orDot, stringTarget, PACKAGE-TARGET-RESOLVE, eachCondition, eachElement}
-use Rattle.package_json.specs.Stands.{Stands, MembersAt, MembersFrom, ElementsAt, ElementsFrom, First, kindOf}
-use Rattle.package_json.specs.Texts.{textOf, TextRead}
+use Rattle.exports.specs.Places.{Stands, MembersAt, MembersFrom, ElementsAt, ElementsFrom, kindOf}
 use Rattle.package_json.specs.declared.Cursor.{Cursor}
-use Rattle.package_json.specs.declared.Cursor.the-variants.{At, Done}
-use Rattle.package_json.specs.declared.Kind.{Kind}
-use Rattle.package_json.specs.declared.Kind.the-variants.{Scalar, String, Array, Object}
-use Rattle.package_json.specs.declared.TextAt.{TextAt}
-use Rattle.package_json.proofs.Rules.{here}
-use Rattle.package_json.proofs.Places.{Shape, aText, anArray, anObject, aScalar, shape-at, inside, One, one, none-left, OneElement, one-of, no-element-left, key-parts, equal-sym}
+use Rattle.package_json.specs.declared.Cursor.the-variants.{At, Nothing as Done}
+use Rattle.exports.specs.declared.Kind.the-variants.{Scalar, String, Array, Object}
+use Rattle.exports.proofs.Places.{One, one, none-left, OneElement, one-of, no-element-left, array-depth, object-depth, equal-sym}
 use Rattle.exports.specs.declared.Outcome.{Outcome}
 use Rattle.exports.specs.declared.Outcome.the-variants.{Found, Nothing, Empty, InvalidTarget, NotExportedMatch, NotExported, ConfigMixed, ConfigDirectory, OverLong}
 use Rattle.exports.specs.declared.Context.{Context}
 use Rattle.exports.specs.declared.Answer.{Answer}
 use Rattle.exports.specs.Contexts.{contextOf}
-use Rattle.exports.specs.Answers.{pathText, outcomeIn, answerOf, resolved, isSome, isNothing, isPassed}
+use Rattle.exports.specs.Answers.{pathText, outcomeIn, answerOf, resolved, isSome, isNothing, isFinal, isPassed}
 use Rattle.exports.proofs.Targets.{outcome-is}
 
 none : {P : Type 0} → ⊥ → P
@@ -70,25 +63,6 @@ is-object scalar e = none (let z : _≡_ {A = ℕ} 0 1 = cc in omega arith)
 is-object (str s) e = none (let z : _≡_ {A = ℕ} 0 1 = cc in omega arith)
 is-object (arr js) e = none (let z : _≡_ {A = ℕ} 0 1 = cc in omega arith)
 is-object (obj ms) e = (ms, refl)
-
--- brackets need depth
-pub array-depth : (m : List ℕ) (d i : ℕ) (js : Elements) → Stands m d i (arr js) → d ≡ 0 → ⊥
-array-depth m d i js h z = go (shape-at h (inside h))
-  where
-    go : {b : ℕ} {s : List ℕ} → Shape d (arr js) (h .rest) b s → ⊥
-    go (aText x b q f) = let o : _≡_ {A = ℕ} 0 1 = cc in omega arith
-    go (anArray p js b u q f) = omega arith
-    go (anObject p ms b u q f) = let o : _≡_ {A = ℕ} 0 1 = cc in omega arith
-    go (aScalar a b c q) = let o : _≡_ {A = ℕ} 0 1 = cc in omega arith
-
-pub object-depth : (m : List ℕ) (d i : ℕ) (ms : Members) → Stands m d i (obj ms) → d ≡ 0 → ⊥
-object-depth m d i ms h z = go (shape-at h (inside h))
-  where
-    go : {b : ℕ} {s : List ℕ} → Shape d (obj ms) (h .rest) b s → ⊥
-    go (aText x b q f) = let o : _≡_ {A = ℕ} 0 1 = cc in omega arith
-    go (anArray p js b u q f) = let o : _≡_ {A = ℕ} 0 1 = cc in omega arith
-    go (anObject p ms b u q f) = omega arith
-    go (aScalar a b c q) = let o : _≡_ {A = ℕ} 0 1 = cc in omega arith
 
 -- one level deeper
 pub deeper : (m : List ℕ) (d i : ℕ) (j : Json) → (d ≡ 0 → ⊥) → Stands m d i j → Stands m (suc (d - 1)) i j
@@ -256,8 +230,7 @@ module _ {m : List ℕ} {d : ℕ} {q : Request} {n : ℕ} {cursor : Cursor} {c :
 
     holds-that : b ≡ (equal (that .name) (bytes "default") || isOneOf (q .conditions) (that .name))
     holds-that =
-        let k = key-parts (that .took .names) (drop i m) (that .name) (that .took .from) (that .took .key) in
-        p (that .name) (k .behind) (k .quote) ∙ ap (λ l. equal (that .name) (bytes "default") || isOneOf l (that .name)) (sym s)
+        p (that .name) (that .behind) (that .quote) ∙ ap (λ l. equal (that .name) (bytes "default") || isOneOf l (that .name)) (sym s)
 
     stepped : x ≡ (if b then orGoOn (PACKAGE-TARGET-RESOLVE q (that .val) c) (λ d. eachCondition q (that .others) d) else eachCondition q (that .others) c)
     unfolding eachCondition
@@ -292,58 +265,59 @@ module _ (m : List ℕ) (d i : ℕ) (q : Request) (j : Json) (c : exports.Contex
   text-leaf x e f = let k = is-text j e in f d (k .0) (rw (k .1) at h) ∙ sym (resolve-text q (k .0) c) ∙ ap (λ j. PACKAGE-TARGET-RESOLVE q j c) (sym (k .1))
 
   module _ (z : d ≡ 0 → ⊥) (cursor : Cursor) where
-    array-first : (js : Elements) → j ≡ arr js → First m i 93 cursor → ElementsFrom m (d - 1) 128 js cursor
-    array-first js e f = f .ofArray refl (d - 1) js (deeper m d i (arr js) z (rw e at h))
+    array-first : (js : Elements) → j ≡ arr js → ((d : ℕ) (js : Elements) → Stands m (suc d) i (arr js) → ElementsFrom m d 128 js cursor) → ElementsFrom m (d - 1) 128 js cursor
+    array-first js e f = f (d - 1) js (deeper m d i (arr js) z (rw e at h))
 
-    pub array-nil : Array ≡ kindOf j → First m i 93 cursor → isSome cursor ≡ false → emptyArray q c ≡ PACKAGE-TARGET-RESOLVE q j c
+    pub array-nil : Array ≡ kindOf j → ((d : ℕ) (js : Elements) → Stands m (suc d) i (arr js) → ElementsFrom m d 128 js cursor) → isSome cursor ≡ false → emptyArray q c ≡ PACKAGE-TARGET-RESOLVE q j c
     array-nil e f n =
         let k = is-array j e in
         sym (array-empty m (d - 1) q c (k .0) cursor (array-first (k .0) (k .1) f) n) ∙ ap (λ j. PACKAGE-TARGET-RESOLVE q j c) (sym (k .1))
 
-    pub array-start : Array ≡ kindOf j → First m i 93 cursor → isSome cursor ≡ true → ArrayLeft m (d - 1) q 128 cursor c (PACKAGE-TARGET-RESOLVE q j c)
+    pub array-start : Array ≡ kindOf j → ((d : ℕ) (js : Elements) → Stands m (suc d) i (arr js) → ElementsFrom m d 128 js cursor) → isSome cursor ≡ true → ArrayLeft m (d - 1) q 128 cursor c (PACKAGE-TARGET-RESOLVE q j c)
     array-start e f n =
         let k = is-array j e in
         let s = array-begin m (d - 1) q c (k .0) cursor (array-first (k .0) (k .1) f) n in
         record { others = s .others; from = s .from; same = ap (λ j. PACKAGE-TARGET-RESOLVE q j c) (k .1) ∙ s .same }
 
-    pub object-start : Object ≡ kindOf j → First m i 125 cursor → ObjectLeft m (d - 1) q 128 cursor c (PACKAGE-TARGET-RESOLVE q j c)
+    pub object-start : Object ≡ kindOf j → ((d : ℕ) (ms : Members) → Stands m (suc d) i (obj ms) → MembersFrom m d 128 ms cursor) → ObjectLeft m (d - 1) q 128 cursor c (PACKAGE-TARGET-RESOLVE q j c)
     object-start e f =
         let k = is-object j e in
-        let s = object-begin m (d - 1) q c (k .0) cursor (f .ofObject refl (d - 1) (k .0) (deeper m d i (obj (k .0)) z (rw (k .1) at h))) in
+        let s = object-begin m (d - 1) q c (k .0) cursor (f (d - 1) (k .0) (deeper m d i (obj (k .0)) z (rw (k .1) at h))) in
         record { others = s .others; from = s .from; same = ap (λ j. PACKAGE-TARGET-RESOLVE q j c) (k .1) ∙ s .same }
 
--- the text of a string
-module _ {m : List ℕ} {d i : ℕ} {s : List ℕ} (h : Stands m d i (str s)) where
-  quote-at : (r : List ℕ) × (quoted (drop i m) ≡ got s r)
-  quote-at = go (shape-at h (inside h))
-    where
-      go : Shape d (str s) (h .rest) (getD m i 0) (drop (i + 1) m) → (r : List ℕ) × (quoted (drop i m) ≡ got s r)
-      go (aText x b q f) = let e : x ≡ s = cc in (h .rest, rw (here m i (inside h)) (rw e at f))
-      go (anArray p js b u q f) = none (let o : _≡_ {A = ℕ} 0 1 = cc in omega arith)
-      go (anObject p ms b u q f) = none (let o : _≡_ {A = ℕ} 0 1 = cc in omega arith)
-      go (aScalar a b c q) = none (let o : _≡_ {A = ℕ} 0 1 = cc in omega arith)
+-- which outcomes are passed
+pub passed-nothing : (o : Outcome) (c : Cursor) → isNothing o ≡ true → true ≡ isPassed o c
+passed-nothing Found c e = clash (sym e)
+passed-nothing Nothing c e = refl
+passed-nothing Empty c e = clash (sym e)
+passed-nothing InvalidTarget c e = clash (sym e)
+passed-nothing NotExportedMatch c e = clash (sym e)
+passed-nothing NotExported c e = clash (sym e)
+passed-nothing ConfigMixed c e = clash (sym e)
+passed-nothing ConfigDirectory c e = clash (sym e)
+passed-nothing OverLong c e = clash (sym e)
 
-  pub text-short : length s ≤ 1024
-  text-short = quoted-sound (drop i m) s (quote-at .0) (quote-at .1) .fits
+pub passed-final : (o : Outcome) (c : Cursor) → isFinal o ≡ true → false ≡ isPassed o c
+passed-final Found c e = refl
+passed-final Nothing c e = clash (sym e)
+passed-final Empty c e = clash (sym e)
+passed-final InvalidTarget c e = clash (sym e)
+passed-final NotExportedMatch c e = clash (sym e)
+passed-final NotExported c e = clash (sym e)
+passed-final ConfigMixed c e = clash (sym e)
+passed-final ConfigDirectory c e = clash (sym e)
+passed-final OverLong c e = refl
 
-  pub text-target : {w w′ : List ℕ} {r : TextAt} {t : List ℕ} → TextRead m w w′ s r → t ≡ textOf m w′ r → t ≡ s
-  text-target g e = e ∙ g .is
-
--- a key's name is a string too
-pub name-stands : (m : List ℕ) (d i : ℕ) (k s : List ℕ) → quoted (drop i m) ≡ got k s → Stands m d i (str k)
-name-stands m d i k s h = record { rest = s; reads = go (drop i m) d h }
-  where
-    by : (a o : List ℕ → Read Json) (t : List ℕ) → quoted t ≡ got k s → valueBy a o t ≡ got (str k) s
-    by a o [] h = unfold quoted in none (let o : _≡_ {A = ℕ} 0 1 = cc in omega arith)
-    by a o (b ∷ t) h = first (eqb b 34) refl
-      where
-        first : (p : Bool) → eqb b 34 ≡ p → valueBy a o (b ∷ t) ≡ got (str k) s
-        first true e = unfold valueBy in rw (e, h)
-        first false e = none (unfold quoted in (let g = rw e at h in let o : _≡_ {A = ℕ} 0 1 = cc in omega arith))
-
-    go : (t : List ℕ) (d : ℕ) → quoted t ≡ got k s → value d t ≡ got (str k) s
-    go t zero h = unfold value in by _ _ t h
-    go t (suc d) h = unfold value in by _ _ t h
+pub passed-other : (o : Outcome) (c : Cursor) → isNothing o ≡ false → isFinal o ≡ false → isSome c ≡ isPassed o c
+passed-other Found c e f = clash f
+passed-other Nothing c e f = clash e
+passed-other Empty c e f = refl
+passed-other InvalidTarget c e f = refl
+passed-other NotExportedMatch c e f = refl
+passed-other NotExported c e f = refl
+passed-other ConfigMixed c e f = refl
+passed-other ConfigDirectory c e f = refl
+passed-other OverLong c e f = clash f
 
 -- conditions
 pub holds-first : (k : List ℕ) (ts : List (List ℕ)) → equal k (bytes "default") ≡ true → true ≡ (equal k (bytes "default") || isOneOf ts k)

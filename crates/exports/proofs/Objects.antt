@@ -9,10 +9,10 @@ use lib.ListN.{length, drop, take}
 use Rattle.definition.specs.Text.{if_then_else_, star, contains}
 use Rattle.definition.specs.Json.{Json, Members, noMember, member, got, quoted}
 use Rattle.definition.specs.Exports.{Entry, entries, anyKey, isDotKey, isSubpathKey, baseLength, PATTERN-KEY-COMPARE, isGt, patternMatch, isMatch, matches, bestKey, better, best}
-use Rattle.package_json.specs.Stands.{Stands, MembersAt, MembersFrom}
+use Rattle.exports.specs.Places.{Stands, MembersAt, MembersFrom}
 use Rattle.package_json.specs.declared.Cursor.{Cursor}
-use Rattle.package_json.specs.declared.Cursor.the-variants.{At, Done}
-use Rattle.package_json.proofs.Places.{One, one, none-left, key-parts}
+use Rattle.package_json.specs.declared.Cursor.the-variants.{At, Nothing as Done}
+use Rattle.exports.proofs.Places.{One, one, none-left}
 use Rattle.exports.specs.declared.KeyMarks.{KeyMarks}
 use Rattle.exports.specs.declared.Best.{Best}
 use Rattle.exports.specs.Keys.{rankOf}
@@ -35,7 +35,7 @@ module _ (m : List ℕ) (n : ℕ) (others : Members) (cursor : Cursor) (from : M
     that = one (rw e at from)
 
     pub name-read : (s : List ℕ) × (quoted (drop i m) ≡ got (that .name) s)
-    name-read = let k = key-parts (that .took .names) (drop i m) (that .name) (that .took .from) (that .took .key) in (k .behind, k .quote)
+    name-read = (that .behind, that .quote)
 
     pub both-that : (v : ℕ) (next : Cursor) → ((n : ℕ) (k : List ℕ) (j : Json) (ms : Members) → MembersAt m 14 n i (member k j ms) → Stands m 14 v j × MembersFrom m 14 (n - 1) ms next) → Stands m 14 v (that .val) × MembersFrom m 14 (n - 1) (that .others) next
     both-that v next f = f n (that .name) (that .val) (that .others) (rw (that .is) at (rw e at from))

@@ -12,10 +12,10 @@ use Rattle.definition.specs.Json.{Json, scalar, str, arr, obj, Members, got, qu
 use Rattle.definition.specs.Settings.{textsOf}
 use Rattle.definition.specs.Exports as exports
 use Rattle.definition.specs.Exports.{Request, failed, InvalidPackageConfig, orGoOn, pathNotExported, Entry, entries, get, anyKey, isDotKey, isSubpathKey, patternMatch, starMatch, best, literal, literalOr, bestResolve, PACKAGE-TARGET-RESOLVE, PACKAGE-IMPORTS-EXPORTS-RESOLVE, isMixed, dotOr, mainExport, mainResolve, keyResolve, PACKAGE-EXPORTS-RESOLVE}
-use Rattle.package_json.specs.Stands.{Stands, Finds, kindOf}
-use Rattle.package_json.specs.declared.Found.{Found}
-use Rattle.package_json.specs.declared.Found.the-variants.{At as FoundAt, Nothing as NotFound}
-use Rattle.package_json.specs.declared.Kind.the-variants.{Scalar, String, Array, Object}
+use Rattle.exports.specs.Places.{Stands, Finds, kindOf}
+use Rattle.package_json.specs.declared.Cursor.{Cursor}
+use Rattle.package_json.specs.declared.Cursor.the-variants.{At as FoundAt, Nothing as NotFound}
+use Rattle.exports.specs.declared.Kind.the-variants.{Scalar, String, Array, Object}
 use Rattle.exports.specs.declared.Context.{Context}
 use Rattle.exports.specs.declared.Form.{Form}
 use Rattle.exports.specs.declared.Form.the-variants.{Plain, Starred, Folder}
@@ -44,11 +44,11 @@ subpath-is m url subpath r c o e =
     ∙ ap (λ x. record { context = contextOf c; outcome = outcomeIn url (keyText m subpath x) (matchOf subpath (r .matched)) o (pathText (r .path)) }) (e .2)
 
 -- a member's value that was looked for
-pub finds-some : (m : List ℕ) (d : ℕ) (o : Option Json) (r : Found) (i : ℕ) → Finds m d o r → r ≡ FoundAt i → (j : Json) × ((o ≡ some j) × Stands m d i j)
+pub finds-some : (m : List ℕ) (d : ℕ) (o : Option Json) (r : Cursor) (i : ℕ) → Finds m d o r → r ≡ FoundAt i → (j : Json) × ((o ≡ some j) × Stands m d i j)
 finds-some m d (some j) r i h e = (j, (refl, rw e at h))
 finds-some m d none r i h e = absurd (rw e at h)
 
-pub finds-none : (m : List ℕ) (d : ℕ) (o : Option Json) (r : Found) → Finds m d o r → r ≡ NotFound → o ≡ none
+pub finds-none : (m : List ℕ) (d : ℕ) (o : Option Json) (r : Cursor) → Finds m d o r → r ≡ NotFound → o ≡ none
 finds-none m d (some j) r h e = absurd (rw e at h)
 finds-none m d none r h e = refl
 
@@ -57,7 +57,7 @@ module _ (m mk : List ℕ) (es : List Entry) where
   unfolding literal
   literal-star h = rw h tt
 
-  pub literal-get : contains star mk ≡ false → (r : Found) → Finds m 14 (get mk es) r → Finds m 14 (literal mk es) r
+  pub literal-get : contains star mk ≡ false → (r : Cursor) → Finds m 14 (get mk es) r → Finds m 14 (literal mk es) r
   unfolding literal
   literal-get h r f = rw h f
 

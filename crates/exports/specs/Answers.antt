@@ -11,9 +11,9 @@ use Rattle.definition.specs.Exports as exports
 use Rattle.definition.specs.Exports.{Request, found, nothing, failed, overlong, InvalidPackageTarget, InvalidPackageConfig, InvalidPackageConfigDirectory, pathNotExported, orDot, PACKAGE-TARGET-RESOLVE}
 use Rattle.definition.specs.Json.{Json}
 use Rattle.definition.specs.Settings.{textsOf}
-use Rattle.package_json.specs.Stands.{Stands}
+use Rattle.exports.specs.Places.{Stands}
 use Rattle.package_json.specs.declared.Cursor.{Cursor}
-use Rattle.package_json.specs.declared.Cursor.the-variants.{At, Done}
+use Rattle.package_json.specs.declared.Cursor.the-variants.{At, Nothing as Done}
 use Rattle.path.specs.declared.PathBuf.{PathBuf}
 use Rattle.exports.specs.declared.Context.{Context}
 use Rattle.exports.specs.declared.Form.{Form}
@@ -79,6 +79,17 @@ isNothing NotExported = false
 isNothing ConfigMixed = false
 isNothing ConfigDirectory = false
 isNothing OverLong = false
+
+abbrev pub isFinal : Outcome → Bool
+isFinal Found = true
+isFinal Nothing = false
+isFinal Empty = false
+isFinal InvalidTarget = false
+isFinal NotExportedMatch = false
+isFinal NotExported = false
+isFinal ConfigMixed = false
+isFinal ConfigDirectory = false
+isFinal OverLong = true
 
 abbrev pub isSome : Cursor → Bool
 isSome Done = false

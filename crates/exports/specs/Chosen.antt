@@ -9,7 +9,7 @@ use Rattle.definition.specs.Text.{text}
 use Rattle.definition.specs.Json.{Json, scalar, str, arr, obj, Read, got, fault, quoted}
 use Rattle.definition.specs.Exports as exports
 use Rattle.definition.specs.Exports.{Entry, anyKey, isDotKey, isSubpathKey, patternMatch, Request, orGoOn, keyResolve, pathNotExported}
-use Rattle.package_json.specs.Stands.{Stands}
+use Rattle.exports.specs.Places.{Stands}
 use Rattle.exports.specs.declared.Answer.{Answer}
 use Rattle.exports.specs.declared.Match.{Match}
 use Rattle.exports.specs.declared.Form.{Form}

@@ -1,3 +1,4 @@
+pub mod Places
 pub mod Keys
 pub mod Contexts
 pub mod Answers

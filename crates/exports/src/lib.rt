@@ -1,7 +1,5 @@
 // The exports algorithms of the Node.js documents, as lib.rs has them.
 use package_json::Cursor;
-use package_json::Found;
-use package_json::Kind;
 use path::PathBuf;
 use specifier::Specifier;
 ghost use mathlib.Core.Path.{_≡_};
@@ -13,15 +11,16 @@ ghost use lib.Dec.{leb};
 ghost use Rattle.definition.specs.Text.{text, star, equal, endsWith, isOneOf, replace};
 ghost use Rattle.definition.specs.Settings.{textsOf, settingsOf};
 ghost use mathlib.Core.Option.{Option, none};
-ghost use Rattle.definition.specs.Json.{Json, str, obj, Members, got, quoted};
-ghost use Rattle.package_json.specs.Stands.{Stands, Finds};
+ghost use Rattle.definition.specs.Json.{Json, str, arr, obj, Members, member, Elements, element, got, quoted};
+ghost use Rattle.definition.specs.JsonAtLaws as values;
+ghost use Rattle.exports.specs.Places.{Stands, MembersAt, ElementsAt, MembersFrom, ElementsFrom, kindOf, Finds};
 ghost use Rattle.definition.specs.Path.{limited};
 ghost use Rattle.path.specs.Meaning.{pathOf};
-ghost use Rattle.definition.specs.Exports.{PATTERN-KEY-COMPARE, isSubpathKey, starMatch, patternMatch, orOld, withQueryFragment, Request, target, targetPath, normalizeStringTarget, stringTarget, isDotKey, anyKey, Entry, entries, better as betterOf, best as bestOf, literal, bestResolve, mainExport, mainResolve, PACKAGE-IMPORTS-EXPORTS-RESOLVE, PACKAGE-EXPORTS-RESOLVE};
+ghost use Rattle.definition.specs.Exports.{PATTERN-KEY-COMPARE, isSubpathKey, starMatch, patternMatch, orOld, withQueryFragment, Request, target, targetPath, normalizeStringTarget, stringTarget, isDotKey, anyKey, Entry, entries, get as getOf, better as betterOf, best as bestOf, literal, bestResolve, mainExport, mainResolve, PACKAGE-IMPORTS-EXPORTS-RESOLVE, PACKAGE-EXPORTS-RESOLVE};
 ghost use Rattle.definition.specs.Specifier.{parseSpecifier};
 ghost use Rattle.exports.specs.Keys.{rankOf, orderOf, matchOf};
 ghost use Rattle.exports.specs.Contexts.{contextOf};
-ghost use Rattle.exports.specs.Answers.{answerOf, resolved, Asked, isNothing, isSome, isPassed, Resolves};
+ghost use Rattle.exports.specs.Answers.{answerOf, resolved, Asked, isNothing, isFinal, isSome, isPassed, Resolves};
 ghost use Rattle.exports.specs.Chosen.{aKey, joinedKeys, keysOf, BestOf, formOf, withKey, resolvedOf, fresh, dotRequest, keysOrNot, IsWhole};
 
 pub enum Order {
@@ -380,6 +379,80 @@ fn text_target(url: &[u8], form: Form, pattern: &[u8], s: &[u8], c: Context) -> 
     }
 }
 
+// The kinds of values.
+pub enum Kind {
+    Scalar,
+    String,
+    Array,
+    Object,
+}
+
+fn kind_at(m: &[u8], at: usize) -> Kind
+    ensures { λ r. ⌜ ((d : ℕ) (j : Json) → Stands (now (m .entry)) d at j → r ≡ kindOf j) ⌝ }
+{
+    let kind = package_json::kind_at(m, at);
+    match kind {
+        package_json::Kind::Scalar => Kind::Scalar,
+        package_json::Kind::String => Kind::String,
+        package_json::Kind::Array => Kind::Array,
+        package_json::Kind::Object => Kind::Object,
+        package_json::Kind::Nothing => Kind::Scalar,
+    }
+}
+
+// The first member of the object at a place, and the first element of an array.
+fn members_of(m: &[u8], at: usize) -> Cursor
+    ensures { λ r. ⌜ ((d : ℕ) (ms : Members) → Stands (now (m .entry)) (suc d) at (obj ms) → MembersFrom (now (m .entry)) d 128 ms r) ⌝ }
+{
+    package_json::first_member(m, at)
+}
+
+fn elements_of(m: &[u8], at: usize) -> Cursor
+    ensures { λ r. ⌜ ((d : ℕ) (js : Elements) → Stands (now (m .entry)) (suc d) at (arr js) → ElementsFrom (now (m .entry)) d 128 js r) ⌝ }
+{
+    package_json::first_element(m, at)
+}
+
+fn next_element(m: &[u8], at: usize) -> Cursor
+    ensures { λ r. ⌜ ((d n : ℕ) (j : Json) (js : Elements) → ElementsAt (now (m .entry)) d n at (element j js) → Stands (now (m .entry)) d at j × ElementsFrom (now (m .entry)) d (n - 1) js r) ⌝ }
+{
+    package_json::next_element(m, at)
+}
+
+// A member's value, and the next member.
+struct Member {
+    value: usize,
+    next: Cursor,
+}
+
+fn entry_at(m: &[u8], at: usize) -> Member
+    ensures { λ r. ⌜ ((d n : ℕ) (k : List ℕ) (j : Json) (ms : Members) → MembersAt (now (m .entry)) d n at (member k j ms) → Stands (now (m .entry)) d (r .value) j × MembersFrom (now (m .entry)) d (n - 1) ms (r .next)) ⌝ }
+{
+    let value = package_json::member_value(m, at);
+    match value {
+        Cursor::Nothing => Member {
+            value: at,
+            next: Cursor::Nothing,
+        },
+        Cursor::At(i) => {
+            let next = package_json::next_element(m, i);
+            Member { value: i, next }
+        }
+    }
+}
+
+fn get(m: &[u8], at: usize, name: &[u8]) -> Cursor
+    ensures { λ r. ⌜ ((d : ℕ) (ms : Members) → Stands (now (m .entry)) (suc d) at (obj ms) → Finds (now (m .entry)) d (getOf (now (name .entry)) (entries ms)) r) ⌝ }
+{
+    package_json::get(m, at, name)
+}
+
+fn name_is(m: &[u8], at: usize, key: &[u8]) -> bool
+    ensures { λ r. ⌜ ((t s : List ℕ) → quoted (drop at (now (m .entry))) ≡ got t s → r ≡ equal t (now (key .entry))) ⌝ }
+{
+    package_json::name_is(m, at, key)
+}
+
 // The string at a place as a target.
 fn string_target(
     m: &[u8],
@@ -401,14 +474,14 @@ fn string_target(
 fn condition_holds(m: &[u8], at: usize, settings: &[u8]) -> bool
     ensures { λ r. ⌜ ((k s : List ℕ) → quoted (drop at (now (m .entry))) ≡ got k s → r ≡ (equal k (text "default") || isOneOf (textsOf (now (settings .entry)) 0) k)) ⌝ }
 {
-    if package_json::name_is(m, at, b"default") {
+    if name_is(m, at, b"default") {
         return true;
     }
     let n = settings::count(settings, settings::Kind::Conditions);
     let mut i: usize = 0;
     while i < n {
         let condition = settings::text(settings, settings::Kind::Conditions, i);
-        if package_json::name_is(m, at, condition) {
+        if name_is(m, at, condition) {
             return true;
         }
         i += 1;
@@ -437,8 +510,25 @@ fn is_some(c: Cursor) -> bool
     ensures { λ r. ⌜ r ≡ isSome c ⌝ }
 {
     match c {
-        Cursor::Done => false,
+        Cursor::Nothing => false,
         Cursor::At(_) => true,
+    }
+}
+
+// A path, or a refusal: nothing else is tried.
+fn is_final(o: Outcome) -> bool
+    ensures { λ r. ⌜ r ≡ isFinal o ⌝ }
+{
+    match o {
+        Outcome::Found => true,
+        Outcome::OverLong => true,
+        Outcome::Nothing => false,
+        Outcome::Empty => false,
+        Outcome::InvalidTarget => false,
+        Outcome::NotExportedMatch => false,
+        Outcome::NotExported => false,
+        Outcome::ConfigMixed => false,
+        Outcome::ConfigDirectory => false,
     }
 }
 
@@ -446,17 +536,13 @@ fn is_some(c: Cursor) -> bool
 fn is_passed(o: Outcome, next: Cursor) -> bool
     ensures { λ r. ⌜ r ≡ isPassed o next ⌝ }
 {
-    match o {
-        Outcome::Nothing => true,
-        Outcome::Found => false,
-        Outcome::OverLong => false,
-        Outcome::Empty => is_some(next),
-        Outcome::InvalidTarget => is_some(next),
-        Outcome::NotExportedMatch => is_some(next),
-        Outcome::NotExported => is_some(next),
-        Outcome::ConfigMixed => is_some(next),
-        Outcome::ConfigDirectory => is_some(next),
+    if is_nothing(o) {
+        return true;
     }
+    if is_final(o) {
+        return false;
+    }
+    is_some(next)
 }
 
 // The target at a place, in which `depth` more brackets may be open.
@@ -474,7 +560,7 @@ fn package_target_resolve(
     requires { ⌜ 1024 ≤ length (now work) ⌝ }
     ensures { λ r. ⌜ Resolves (now (m .entry)) at depth (now (settings .entry)) (now (url .entry)) form (now (pattern .entry)) c r ⌝ }
 {
-    let kind = package_json::kind_at(m, at);
+    let kind = kind_at(m, at);
     match kind {
         Kind::Scalar => without_path(c, Outcome::Nothing),
         Kind::String => string_target(m, at, url, form, pattern, c, work),
@@ -482,7 +568,7 @@ fn package_target_resolve(
             if depth == 0 {
                 return without_path(c, Outcome::Nothing);
             }
-            let mut cursor = package_json::first(m, at, b']');
+            let mut cursor = elements_of(m, at);
             let some = is_some(cursor);
             if !some {
                 return without_path(c, Outcome::NotExportedMatch);
@@ -491,9 +577,9 @@ fn package_target_resolve(
             let mut left: usize = 128;
             while left > 0 {
                 match cursor {
-                    Cursor::Done => return without_path(context, Outcome::Nothing),
+                    Cursor::Nothing => return without_path(context, Outcome::Nothing),
                     Cursor::At(i) => {
-                        let next = package_json::element(m, i, depth - 1);
+                        let next = next_element(m, i);
                         let r = package_target_resolve(
                             m,
                             i,
@@ -522,14 +608,14 @@ fn package_target_resolve(
             if depth == 0 {
                 return without_path(c, Outcome::Nothing);
             }
-            let mut cursor = package_json::first(m, at, b'}');
+            let mut cursor = members_of(m, at);
             let mut context = c;
             let mut left: usize = 128;
             while left > 0 {
                 match cursor {
-                    Cursor::Done => return without_path(context, Outcome::Nothing),
+                    Cursor::Nothing => return without_path(context, Outcome::Nothing),
                     Cursor::At(i) => {
-                        let e = package_json::entry_at(m, i, depth - 1);
+                        let e = entry_at(m, i);
                         let value = e.value;
                         let holds = condition_holds(m, i, settings);
                         if holds {
@@ -623,7 +709,7 @@ fn keys_of(m: &[u8], at: usize, work: &mut [u8]) -> KeyMarks
     requires { ⌜ 1024 ≤ length (now work) ⌝ }
     ensures { λ r. ⌜ ((ms : Members) → Stands (now (m .entry)) 15 at (obj ms) → r ≡ keysOf (entries ms)) ⌝ }
 {
-    let mut cursor = package_json::first(m, at, b'}');
+    let mut cursor = members_of(m, at);
     let mut keys = KeyMarks {
         dot: false,
         other: false,
@@ -632,9 +718,9 @@ fn keys_of(m: &[u8], at: usize, work: &mut [u8]) -> KeyMarks
     let mut left: usize = 128;
     while left > 0 {
         match cursor {
-            Cursor::Done => return keys,
+            Cursor::Nothing => return keys,
             Cursor::At(i) => {
-                let e = package_json::entry_at(m, i, 14);
+                let e = entry_at(m, i);
                 let key = key_at(m, i, work);
                 keys = joined(keys, key);
                 cursor = e.next;
@@ -689,7 +775,7 @@ fn best_key(m: &[u8], at: usize, subpath: &[u8], work: &mut [u8]) -> Best
     requires { ⌜ 1024 ≤ length (now work) ⌝ }
     ensures { λ r. ⌜ ((ms : Members) → Stands (now (m .entry)) 15 at (obj ms) → BestOf (now (m .entry)) (now (subpath .entry)) r (bestOf (now (subpath .entry)) none (entries ms))) ⌝ }
 {
-    let mut cursor = package_json::first(m, at, b'}');
+    let mut cursor = members_of(m, at);
     let mut best = Best {
         found: false,
         key: 0,
@@ -705,9 +791,9 @@ fn best_key(m: &[u8], at: usize, subpath: &[u8], work: &mut [u8]) -> Best
     let mut left: usize = 128;
     while left > 0 {
         match cursor {
-            Cursor::Done => return best,
+            Cursor::Nothing => return best,
             Cursor::At(i) => {
-                let e = package_json::entry_at(m, i, 14);
+                let e = entry_at(m, i);
                 let value = e.value;
                 best = better(m, i, value, subpath, best, work);
                 cursor = e.next;
@@ -764,13 +850,13 @@ fn unresolved(c: Context, outcome: Outcome) -> Resolved
 }
 
 // The value of the literal key: a match key with a star is none.
-fn literal_at(m: &[u8], at: usize, match_key: &[u8]) -> Found
+fn literal_at(m: &[u8], at: usize, match_key: &[u8]) -> Cursor
     ensures { λ r. ⌜ ((ms : Members) → Stands (now (m .entry)) 15 at (obj ms) → Finds (now (m .entry)) 14 (literal (now («match_key» .entry)) (entries ms)) r) ⌝ }
 {
     if text::contains(match_key, b'*') {
-        return Found::Nothing;
+        return Cursor::Nothing;
     }
-    package_json::get(m, at, 14, match_key)
+    get(m, at, match_key)
 }
 
 fn form_of(starred: bool) -> Form
@@ -837,8 +923,8 @@ fn package_imports_exports_resolve(
     }
     let literal = literal_at(m, at, match_key);
     match literal {
-        Found::Nothing => pattern_resolve(m, at, settings, url, match_key, c, work),
-        Found::At(i) => {
+        Cursor::Nothing => pattern_resolve(m, at, settings, url, match_key, c, work),
+        Cursor::At(i) => {
             let a = package_target_resolve(
                 m,
                 i,
@@ -890,9 +976,9 @@ fn main_resolve(
     requires { ⌜ 1024 ≤ length (now work) ⌝ }
     ensures { λ r. ⌜ ((ms : Members) → Stands (now (m .entry)) 15 at (obj ms) → subpaths ≡ anyKey isSubpathKey (entries ms) → answerOf (dotRequest (now (url .entry)) (textsOf (now (settings .entry)) 0)) r ≡ mainResolve (now (url .entry)) (textsOf (now (settings .entry)) 0) (mainExport (obj ms)) fresh) ⌝ }
 {
-    let dot = package_json::get(m, at, 14, b".");
+    let dot = get(m, at, b".");
     match dot {
-        Found::At(i) => package_target_resolve(
+        Cursor::At(i) => package_target_resolve(
             m,
             i,
             14,
@@ -903,7 +989,7 @@ fn main_resolve(
             Context::new(),
             work,
         ),
-        Found::Nothing => {
+        Cursor::Nothing => {
             if subpaths {
                 return without_path(Context::new(), Outcome::Nothing);
             }
@@ -1006,13 +1092,13 @@ pub fn package_exports_resolve(
     subpath: &[u8],
     work: &mut [u8],
 ) -> Resolved
-    ensures { λ r. ⌜ ((j : Json) → 1024 ≤ length (now (work .entry)) → Stands (now (m .entry)) 15 at j → resolvedOf (now (m .entry)) (now (url .entry)) (now (subpath .entry)) r ≡ PACKAGE-EXPORTS-RESOLVE (now (url .entry)) (settingsOf (now (settings .entry)) .conditions) (now (subpath .entry)) j fresh) ⌝ }
+    ensures { λ r. ⌜ ((j : Json) → 1024 ≤ length (now (work .entry)) → values.Stands 15 (drop at (now (m .entry))) j → resolvedOf (now (m .entry)) (now (url .entry)) (now (subpath .entry)) r ≡ PACKAGE-EXPORTS-RESOLVE (now (url .entry)) (settingsOf (now (settings .entry)) .conditions) (now (subpath .entry)) j fresh) ⌝ }
     ensures { λ r. ⌜ length (now (work .exit)) ≡ length (now (work .entry)) ⌝ }
 {
     if work.len() < 1024 {
         return unresolved(Context::new(), Outcome::NotExported);
     }
-    let kind = package_json::kind_at(m, at);
+    let kind = kind_at(m, at);
     match kind {
         Kind::Scalar => unresolved(Context::new(), Outcome::NotExported),
         Kind::String => whole_resolve(m, at, settings, url, subpath, work),

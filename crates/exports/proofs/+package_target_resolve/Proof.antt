@@ -8,7 +8,7 @@ use borrow.Author.Needs.{needs}
 use lib.ListN.{length}
 use Rattle.definition.specs.Json.{Json}
 use Rattle.definition.specs.Exports.{Request, PACKAGE-TARGET-RESOLVE}
-use Rattle.package_json.specs.Stands.{Stands}
+use Rattle.exports.specs.Places.{Stands}
 use Rattle.exports.specs.declared.Outcome.the-variants.{Nothing, NotExportedMatch}
 use Rattle.exports.specs.Contexts.{contextOf}
 use Rattle.exports.specs.Answers.{Requested}
@@ -21,15 +21,16 @@ use Rattle.exports.proofs.package_target_resolve.Reads as package-targe
 use Rattle.exports.proofs.package_target_resolve.Kinds as package-target-resolve-kinds
 use Rattle.exports.proofs.+package_target_resolve.Lts-package_target_resolve as package-target-resolve-lts
 use Rattle.exports.proofs.condition_holds.Reads as condition-holds-reads
+use Rattle.exports.proofs.elements_of.Reads as elements-of-reads
+use Rattle.exports.proofs.entry_at.Reads as entry-at-reads
 use Rattle.exports.proofs.is_nothing.Reads as is-nothing-reads
 use Rattle.exports.proofs.is_passed.Reads as is-passed-reads
 use Rattle.exports.proofs.is_some.Reads as is-some-reads
+use Rattle.exports.proofs.kind_at.Reads as kind-at-reads
+use Rattle.exports.proofs.members_of.Reads as members-of-reads
+use Rattle.exports.proofs.next_element.Reads as next-element-reads
 use Rattle.exports.proofs.string_target.Reads as string-target-reads
 use Rattle.exports.proofs.without_path.Reads as without-path-reads
-use Rattle.package_json.proofs.element.Reads as element-reads
-use Rattle.package_json.proofs.entry_at.Reads as entry-at-reads
-use Rattle.package_json.proofs.first.Reads as first-reads
-use Rattle.package_json.proofs.kind_at.Reads as kind-at-reads
 use Rattle.exports.proofs.+package_target_resolve.{statement}
 use Rattle.exports.proofs.+package_target_resolve.Tie.{close}
 
@@ -76,16 +77,18 @@ pub +package-target-resolve-spec : {M : Type 1} → statement M
   without-path-reads.Learnt,
   string-target-reads.Asked,
   string-target-reads.Learnt,
-  first-reads.Asked,
-  first-reads.Learnt,
+  elements-of-reads.Asked,
+  elements-of-reads.Learnt,
   is-some-reads.Asked,
   is-some-reads.Learnt,
-  element-reads.Asked,
-  element-reads.Learnt,
+  next-element-reads.Asked,
+  next-element-reads.Learnt,
   package-target-resolve-below t,
   package-target-resolve.Post,
   is-passed-reads.Asked,
   is-passed-reads.Learnt,
+  members-of-reads.Asked,
+  members-of-reads.Learnt,
   entry-at-reads.Asked,
   entry-at-reads.Learnt,
   condition-holds-reads.Asked,
@@ -110,34 +113,32 @@ pub +package-target-resolve-spec : {M : Type 1} → statement M
     (λ c κs. search needs)
     (λ c κs. search needs)
     (λ c κs. search needs)
-    (λ c. record { is = λ q a j h. outcome-is q (c .without-path3 .result) (c .before .before .before .before .before .before .before .before .before .before .before .before .before .args .c) NotExportedMatch (c .without-path3 .ensures) ∙ array-nil (c .before .before .before .before .before .before .before .before .before .before .before .before .before .args .m .now) (c .before .before .before .before .before .before .before .before .before .before .before .before .before .args .depth) (c .before .before .before .before .before .before .before .before .before .before .before .before .before .args .at) q j (contextOf (c .before .before .before .before .before .before .before .before .before .before .before .before .before .args .c)) h (c .before .before .before .before .if1 .left) (c .before .before .before .first .result) (sym (c .before .before .before .before .before .enum-told3 .given .1) ∙ c .before .before .before .before .before .before .before .kind-at .ensures _ j h) (c .before .before .before .first .ensures) (sym (c .before .before .is-some .ensures) ∙ not-true _ (c .before .if2 .taken)) })
-    (λ c. (refl, λ q a j h. array-start (c .before .before .before .before .before .before .before .before .before .before .before .before .args .m .now) (c .before .before .before .before .before .before .before .before .before .before .before .before .args .depth) (c .before .before .before .before .before .before .before .before .before .before .before .before .args .at) q j (contextOf (c .before .before .before .before .before .before .before .before .before .before .before .before .args .c)) h (c .before .before .before .if1 .left) (c .before .before .first .result) (sym (c .before .before .before .before .enum-told3 .given .1) ∙ c .before .before .before .before .before .before .kind-at .ensures _ j h) (c .before .before .first .ensures) (sym (c .before .is-some .ensures) ∙ not-false _ (c .if2 .left))))
+    (λ c. record { is = λ q a j h. outcome-is q (c .without-path3 .result) (c .before .before .before .before .before .before .before .before .before .before .before .before .before .args .c) NotExportedMatch (c .without-path3 .ensures) ∙ array-nil (c .before .before .before .before .before .before .before .before .before .before .before .before .before .args .m .now) (c .before .before .before .before .before .before .before .before .before .before .before .before .before .args .depth) (c .before .before .before .before .before .before .before .before .before .before .before .before .before .args .at) q j (contextOf (c .before .before .before .before .before .before .before .before .before .before .before .before .before .args .c)) h (c .before .before .before .before .if1 .left) (c .before .before .before .elements-of .result) (sym (c .before .before .before .before .before .enum-told3 .given .1) ∙ c .before .before .before .before .before .before .before .kind-at .ensures _ j h) (c .before .before .before .elements-of .ensures) (sym (c .before .before .is-some .ensures) ∙ not-true _ (c .before .if2 .taken)) })
+    (λ c. (refl, λ q a j h. array-start (c .before .before .before .before .before .before .before .before .before .before .before .before .args .m .now) (c .before .before .before .before .before .before .before .before .before .before .before .before .args .depth) (c .before .before .before .before .before .before .before .before .before .before .before .before .args .at) q j (contextOf (c .before .before .before .before .before .before .before .before .before .before .before .before .args .c)) h (c .before .before .before .if1 .left) (c .before .before .elements-of .result) (sym (c .before .before .before .before .enum-told3 .given .1) ∙ c .before .before .before .before .before .before .kind-at .ensures _ j h) (c .before .before .elements-of .ensures) (sym (c .before .is-some .ensures) ∙ not-false _ (c .if2 .left))))
     (λ c. search needs)
     (λ c κs. search needs)
     (λ c. c .before .before .before .before .loop .inv .0)
     (λ c. record { is = λ q a j h. outcome-is q (c .without-path4 .result) (c .before .before .before .before .loop .context) Nothing (c .without-path4 .ensures) ∙ sym (array-done (c .before .before .before .before .loop .inv .1 q a j h) (c .before .enum-told4 .given .1)) })
-    (λ c. search needs)
     (λ c. search needs)
     (λ c κs. search needs)
     (λ c. search needs)
     (λ c κs. (search needs, omega (arith, c .before .before .before .before .before .before .loop .inv .0, c .before .before .before .before .before .before .before .before .before .before .before .before .before .before .before .before .before .before .before .pre .1)))
     (λ c κs. search needs)
     (λ c. c .before .before .before .before .package-target-resolve .kept .1 .1 .1 .1 .1 .1 .1 .1 .0 ∙ c .before .before .before .before .before .before .before .before .before .before .before .loop .inv .0)
-    (λ c. record { is = λ q a j h. sym (array-stop (c .before .before .before .before .before .before .before .before .before .before .before .loop .inv .1 q a j h) (c .before .before .before .before .before .before .before .before .cursor .given .1) (c .before .before .before .before .before .before .element .result) (c .before .before .before .before .before .before .element .ensures) (c .before .before .before .before .package-target-resolve .result) (λ j s. c .before .before .before .before .package-target-resolve .ensures .is q a j s) (sym (c .before .is-passed .ensures) ∙ not-true _ (c .if3 .taken))) })
+    (λ c. record { is = λ q a j h. sym (array-stop (c .before .before .before .before .before .before .before .before .before .before .before .loop .inv .1 q a j h) (c .before .before .before .before .before .before .before .before .cursor .given .1) (c .before .before .before .before .before .before .next-element .result) (c .before .before .before .before .before .before .next-element .ensures ((c .before .before .before .before .before .before .before .before .before .before .before .before .before .before .before .before .before .before .before .before .before .before .before .before .args .depth) - 1)) (c .before .before .before .before .package-target-resolve .result) (λ j s. c .before .before .before .before .package-target-resolve .ensures .is q a j s) (sym (c .before .is-passed .ensures) ∙ not-true _ (c .if3 .taken))) })
     (λ c. search needs)
     (λ c. search needs)
-    (λ c. (c .before .before .before .before .before .package-target-resolve .kept .1 .1 .1 .1 .1 .1 .1 .1 .0 ∙ c .before .before .before .before .before .before .before .before .before .before .before .before .loop .inv .0, λ q a j h. array-on (c .before .before .before .before .before .before .before .before .before .before .before .before .loop .inv .1 q a j h) (c .before .before .before .before .before .before .before .before .before .cursor .given .1) (c .before .before .before .before .before .before .before .element .result) (c .before .before .before .before .before .before .before .element .ensures) (c .before .before .before .before .before .package-target-resolve .result) (λ j s. c .before .before .before .before .before .package-target-resolve .ensures .is q a j s) (sym (c .before .before .is-passed .ensures) ∙ not-false _ (c .before .if3 .left))))
+    (λ c. (c .before .before .before .before .before .package-target-resolve .kept .1 .1 .1 .1 .1 .1 .1 .1 .0 ∙ c .before .before .before .before .before .before .before .before .before .before .before .before .loop .inv .0, λ q a j h. array-on (c .before .before .before .before .before .before .before .before .before .before .before .before .loop .inv .1 q a j h) (c .before .before .before .before .before .before .before .before .before .cursor .given .1) (c .before .before .before .before .before .before .before .next-element .result) (c .before .before .before .before .before .before .before .next-element .ensures ((c .before .before .before .before .before .before .before .before .before .before .before .before .before .before .before .before .before .before .before .before .before .before .before .before .before .args .depth) - 1)) (c .before .before .before .before .before .package-target-resolve .result) (λ j s. c .before .before .before .before .before .package-target-resolve .ensures .is q a j s) (sym (c .before .before .is-passed .ensures) ∙ not-false _ (c .before .if3 .left))))
     (λ c κs. search needs)
     (λ c. search needs)
     (λ c κs. search needs)
     (λ c. record { is = λ q a j h. absurd (object-shallow h (sym (c .before .before .enum-told5 .given .1) ∙ c .before .before .before .before .kind-at .ensures _ j h) (c .before .if4 .taken)) })
     (λ c κs. search needs)
-    (λ c. (refl, λ q a j h. object-start (c .before .before .before .before .before .before .before .before .before .before .args .m .now) (c .before .before .before .before .before .before .before .before .before .before .args .depth) (c .before .before .before .before .before .before .before .before .before .before .args .at) q j (contextOf (c .before .before .before .before .before .before .before .before .before .before .args .c)) h (c .before .if4 .left) (c .first2 .result) (sym (c .before .before .enum-told5 .given .1) ∙ c .before .before .before .before .kind-at .ensures _ j h) (c .first2 .ensures)))
+    (λ c. (refl, λ q a j h. object-start (c .before .before .before .before .before .before .before .before .before .before .args .m .now) (c .before .before .before .before .before .before .before .before .before .before .args .depth) (c .before .before .before .before .before .before .before .before .before .before .args .at) q j (contextOf (c .before .before .before .before .before .before .before .before .before .before .args .c)) h (c .before .if4 .left) (c .members-of .result) (sym (c .before .before .enum-told5 .given .1) ∙ c .before .before .before .before .kind-at .ensures _ j h) (c .members-of .ensures)))
     (λ c. search needs)
     (λ c κs. search needs)
     (λ c. c .before .before .before .before .loop2 .inv .0)
     (λ c. record { is = λ q a j h. outcome-is q (c .without-path7 .result) (c .before .before .before .before .loop2 .context) Nothing (c .without-path7 .ensures) ∙ sym (object-done (c .before .before .before .before .loop2 .inv .1 q a j h) (c .before .enum-told6 .given .1)) })
-    (λ c. search needs)
     (λ c. search needs)
     (λ c κs. search needs)
     (λ c κs. search needs)
@@ -145,13 +146,13 @@ pub +package-target-resolve-spec : {M : Type 1} → statement M
     (λ c κs. (search needs, omega (arith, c .before .before .before .before .before .before .before .before .loop2 .inv .0, c .before .before .before .before .before .before .before .before .before .before .before .before .before .before .before .before .before .before .before .pre .1)))
     (λ c κs. search needs)
     (λ c. c .before .before .before .before .package-target-resolve2 .kept .1 .1 .1 .1 .1 .1 .1 .1 .0 ∙ c .before .before .before .before .before .before .before .before .before .before .before .before .before .loop2 .inv .0)
-    (λ c. record { is = λ q a j h. sym (object-stop (c .before .before .before .before .before .before .before .before .before .before .before .before .before .loop2 .inv .1 q a j h) (c .before .before .before .before .before .before .before .before .before .before .cursor2 .given .1) (c .before .before .before .before .before .before .before .before .entry-at .result .value) (c .before .before .before .before .before .before .before .before .entry-at .result .next) (c .before .before .before .before .before .before .before .before .entry-at .ensures) (c .before .before .before .before .before .before .before .before .before .before .before .before .before .before .before .before .before .before .before .before .before .before .before .before .args .settings .now) (a .conditions) (c .before .before .before .before .before .before .before .condition-holds .result) (c .before .before .before .before .before .before .before .condition-holds .ensures) (c .before .before .before .before .before .before .if5 .taken) (c .before .before .before .before .package-target-resolve2 .result) (λ j s. c .before .before .before .before .package-target-resolve2 .ensures .is q a j s) (sym (c .before .is-nothing .ensures) ∙ not-true _ (c .if6 .taken))) })
+    (λ c. record { is = λ q a j h. sym (object-stop (c .before .before .before .before .before .before .before .before .before .before .before .before .before .loop2 .inv .1 q a j h) (c .before .before .before .before .before .before .before .before .before .before .cursor2 .given .1) (c .before .before .before .before .before .before .before .before .entry-at .result .value) (c .before .before .before .before .before .before .before .before .entry-at .result .next) (c .before .before .before .before .before .before .before .before .entry-at .ensures ((c .before .before .before .before .before .before .before .before .before .before .before .before .before .before .before .before .before .before .before .before .before .before .before .before .args .depth) - 1)) (c .before .before .before .before .before .before .before .before .before .before .before .before .before .before .before .before .before .before .before .before .before .before .before .before .args .settings .now) (a .conditions) (c .before .before .before .before .before .before .before .condition-holds .result) (c .before .before .before .before .before .before .before .condition-holds .ensures) (c .before .before .before .before .before .before .if5 .taken) (c .before .before .before .before .package-target-resolve2 .result) (λ j s. c .before .before .before .before .package-target-resolve2 .ensures .is q a j s) (sym (c .before .is-nothing .ensures) ∙ not-true _ (c .if6 .taken))) })
     (λ c. search needs)
     (λ c. search needs)
-    (λ c. (c .before .before .before .before .before .package-target-resolve2 .kept .1 .1 .1 .1 .1 .1 .1 .1 .0 ∙ c .before .before .before .before .before .before .before .before .before .before .before .before .before .before .loop2 .inv .0, λ q a j h. object-on (c .before .before .before .before .before .before .before .before .before .before .before .before .before .before .loop2 .inv .1 q a j h) (c .before .before .before .before .before .before .before .before .before .before .before .cursor2 .given .1) (c .before .before .before .before .before .before .before .before .before .entry-at .result .value) (c .before .before .before .before .before .before .before .before .before .entry-at .result .next) (c .before .before .before .before .before .before .before .before .before .entry-at .ensures) (c .before .before .before .before .before .before .before .before .before .before .before .before .before .before .before .before .before .before .before .before .before .before .before .before .before .args .settings .now) (a .conditions) (c .before .before .before .before .before .before .before .before .condition-holds .result) (c .before .before .before .before .before .before .before .before .condition-holds .ensures) (c .before .before .before .before .before .before .before .if5 .taken) (c .before .before .before .before .before .package-target-resolve2 .result) (λ j s. c .before .before .before .before .before .package-target-resolve2 .ensures .is q a j s) (sym (c .before .before .is-nothing .ensures) ∙ not-false _ (c .before .if6 .left))))
+    (λ c. (c .before .before .before .before .before .package-target-resolve2 .kept .1 .1 .1 .1 .1 .1 .1 .1 .0 ∙ c .before .before .before .before .before .before .before .before .before .before .before .before .before .before .loop2 .inv .0, λ q a j h. object-on (c .before .before .before .before .before .before .before .before .before .before .before .before .before .before .loop2 .inv .1 q a j h) (c .before .before .before .before .before .before .before .before .before .before .before .cursor2 .given .1) (c .before .before .before .before .before .before .before .before .before .entry-at .result .value) (c .before .before .before .before .before .before .before .before .before .entry-at .result .next) (c .before .before .before .before .before .before .before .before .before .entry-at .ensures ((c .before .before .before .before .before .before .before .before .before .before .before .before .before .before .before .before .before .before .before .before .before .before .before .before .before .args .depth) - 1)) (c .before .before .before .before .before .before .before .before .before .before .before .before .before .before .before .before .before .before .before .before .before .before .before .before .before .args .settings .now) (a .conditions) (c .before .before .before .before .before .before .before .before .condition-holds .result) (c .before .before .before .before .before .before .before .before .condition-holds .ensures) (c .before .before .before .before .before .before .before .if5 .taken) (c .before .before .before .before .before .package-target-resolve2 .result) (λ j s. c .before .before .before .before .before .package-target-resolve2 .ensures .is q a j s) (sym (c .before .before .is-nothing .ensures) ∙ not-false _ (c .before .if6 .left))))
     (λ c. search needs)
     (λ c. search needs)
-    (λ c. (c .before .before .before .before .before .before .before .loop2 .inv .0, λ q a j h. object-skip (c .before .before .before .before .before .before .before .loop2 .inv .1 q a j h) (c .before .before .before .before .cursor2 .given .1) (c .before .before .entry-at .result .value) (c .before .before .entry-at .result .next) (c .before .before .entry-at .ensures) (c .before .before .before .before .before .before .before .before .before .before .before .before .before .before .before .before .before .before .args .settings .now) (a .conditions) (c .before .condition-holds .result) (c .before .condition-holds .ensures) (c .if5 .left)))
+    (λ c. (c .before .before .before .before .before .before .before .loop2 .inv .0, λ q a j h. object-skip (c .before .before .before .before .before .before .before .loop2 .inv .1 q a j h) (c .before .before .before .before .cursor2 .given .1) (c .before .before .entry-at .result .value) (c .before .before .entry-at .result .next) (c .before .before .entry-at .ensures ((c .before .before .before .before .before .before .before .before .before .before .before .before .before .before .before .before .before .before .args .depth) - 1)) (c .before .before .before .before .before .before .before .before .before .before .before .before .before .before .before .before .before .before .args .settings .now) (a .conditions) (c .before .condition-holds .result) (c .before .condition-holds .ensures) (c .if5 .left)))
     (λ c κs. search needs)
     (λ c. record { is = λ q a j h. outcome-is q (c .without-path .result) (c .before .before .before .before .before .before .before .before .before .args .c) Nothing (c .without-path .ensures) ∙ sym (resolve-scalar q j (contextOf (c .before .before .before .before .before .before .before .before .before .args .c)) (sym (c .before .enum-told .given .1) ∙ c .before .before .before .kind-at .ensures _ j h)) })
     (λ c. c .before .before .string-target .kept .1 .1 .1 .1 .1 .1 .0)

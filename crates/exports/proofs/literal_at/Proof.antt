@@ -12,4 +12,4 @@ literal-at-spec =
     (λ c κs. search needs)
     (λ c. λ ms h. literal-star (c .before .before .before .before .args .m .now) (c .before .before .before .before .args .match-key .now) (entries ms) (sym (c .before .contains .ensures) ∙ c .if1 .taken))
     (λ c κs. search needs)
-    (λ c. λ ms h. literal-get (c .before .before .before .before .before .args .m .now) (c .before .before .before .before .before .args .match-key .now) (entries ms) (sym (c .before .before .contains .ensures) ∙ c .before .if1 .left) (c .get .result) (c .get .ensures ms h)))
+    (λ c. λ ms h. literal-get (c .before .before .before .before .before .args .m .now) (c .before .before .before .before .before .args .match-key .now) (entries ms) (sym (c .before .before .contains .ensures) ∙ c .before .if1 .left) (c .get .result) (c .get .ensures 14 ms h)))
