@@ -1,14 +1,19 @@
 -- What the answers of a resolution mean.
 use mathlib.Core.Path.{_≡_}
 use Prim.Native.Nat.{ℕ}
-use mathlib.Core.Bool.{true, false}
+use mathlib.Core.Bool.{Bool, true, false}
 use mathlib.Core.List.{List}
 use mathlib.Core.Option.{Option, none, some}
 use lib.ListN.{take}
 use Rattle.definition.specs.Text.{text, star, contains, endsWith}
 use Rattle.definition.specs.Path.{manifestOf}
 use Rattle.definition.specs.Exports as exports
-use Rattle.definition.specs.Exports.{Request, found, nothing, failed, overlong, InvalidPackageTarget, InvalidPackageConfig, InvalidPackageConfigDirectory, pathNotExported, orDot}
+use Rattle.definition.specs.Exports.{Request, found, nothing, failed, overlong, InvalidPackageTarget, InvalidPackageConfig, InvalidPackageConfigDirectory, pathNotExported, orDot, PACKAGE-TARGET-RESOLVE}
+use Rattle.definition.specs.Json.{Json}
+use Rattle.definition.specs.Settings.{textsOf}
+use Rattle.exports.specs.Places.{Stands}
+use Rattle.package_json.specs.declared.Cursor.{Cursor}
+use Rattle.package_json.specs.declared.Cursor.the-variants.{At, Nothing as Done}
 use Rattle.path.specs.declared.PathBuf.{PathBuf}
 use Rattle.exports.specs.declared.Context.{Context}
 use Rattle.exports.specs.declared.Form.{Form}
@@ -53,3 +58,50 @@ Formed q Folder p = (q .matched ≡ some p) × (contains star (q .key) ≡ false
 pub record Asked (q : Request) (url : List ℕ) (form : Form) (pattern : List ℕ) : Type 0 where
   pub directory : q .packageURL ≡ url
   pub formed : Formed q form pattern
+
+-- the same with the conditions of the settings
+pub record Requested (q : Request) (settings url : List ℕ) (form : Form) (pattern : List ℕ) : Type 0 where
+  pub asked : Asked q url form pattern
+  pub conditions : q .conditions ≡ textsOf settings 0
+
+-- a target of the manifest m was resolved
+pub record Resolves (m : List ℕ) (at depth : ℕ) (settings url : List ℕ) (form : Form) (pattern : List ℕ) (c : Context) (r : Answer) : Type 0 where
+  pub is : (q : Request) → Requested q settings url form pattern → (j : Json) → Stands m depth at j → answerOf q r ≡ PACKAGE-TARGET-RESOLVE q j (contextOf c)
+
+-- which answers let the next condition, or the next element, be tried
+abbrev pub isNothing : Outcome → Bool
+isNothing Found = false
+isNothing Nothing = true
+isNothing Empty = false
+isNothing InvalidTarget = false
+isNothing NotExportedMatch = false
+isNothing NotExported = false
+isNothing ConfigMixed = false
+isNothing ConfigDirectory = false
+isNothing OverLong = false
+
+abbrev pub isFinal : Outcome → Bool
+isFinal Found = true
+isFinal Nothing = false
+isFinal Empty = false
+isFinal InvalidTarget = false
+isFinal NotExportedMatch = false
+isFinal NotExported = false
+isFinal ConfigMixed = false
+isFinal ConfigDirectory = false
+isFinal OverLong = true
+
+abbrev pub isSome : Cursor → Bool
+isSome Done = false
+isSome (At i) = true
+
+abbrev pub isPassed : Outcome → Cursor → Bool
+isPassed Found c = false
+isPassed Nothing c = true
+isPassed Empty c = isSome c
+isPassed InvalidTarget c = isSome c
+isPassed NotExportedMatch c = isSome c
+isPassed NotExported c = isSome c
+isPassed ConfigMixed c = isSome c
+isPassed ConfigDirectory c = isSome c
+isPassed OverLong c = false
