@@ -1,12 +1,9 @@
 -- Two listings that agree at every path that a routine consults over the first give it the same answer and the same list.
--- Assumes nothing.
-use mathlib.Core.Path.{_≡_, refl, sym, _∙_, ap}
-use mathlib.Core.List.{List, [], _∷_, List·Memᴰ, List·Memᴰ·head, List·Memᴰ·tail}
-use mathlib.Core.Option.{Option, none, some}
-use Prim.Native.Nat.{ℕ}
-use Rattle.definition.specs.Text.{Text}
+--
+use mathlib.Core.Path.{_≡_, refl, _∙_, ap}
+use mathlib.Core.List.{List, List·Memᴰ, List·Memᴰ·head, List·Memᴰ·tail}
 use Rattle.definition.specs.Listing.{Entry, noEntry, directoryEntry, fileEntry}
-use Rattle.definition.specs.Ask.{State, absent, directory, file, Listing, Consult, Step, go, stop, Ask, ret, end, ask, read, number, stateOf, contentsOf, asked, opened, answer, log}
+use Rattle.definition.specs.Ask.{Listing, Consult, Ask, ret, end, ask, read, stateOf, contentsOf, asked, opened, answer, log}
 
 module _ {M : Type 0} where
   -- 01: both have no entry, both a directory or both a file, and at state 3 the two files show the same

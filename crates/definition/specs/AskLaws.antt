@@ -1,10 +1,8 @@
 -- ROUTINES IN A ROW: the answer and the list of `t >>= f` from those of t and of f.
-use mathlib.Core.Path.{_≡_, refl, sym, _∙_, ap}
-use mathlib.Core.List.{List, [], _∷_, _++_}
-use mathlib.Core.Option.{Option, none, some}
-use Rattle.definition.specs.Text.{Text}
+use mathlib.Core.Path.{_≡_, refl}
+use mathlib.Core.List.{List, [], _++_}
 use Rattle.definition.specs.Listing.{Entry, noEntry, directoryEntry, fileEntry}
-use Rattle.definition.specs.Ask.{State, Listing, Consult, Step, go, stop, Ask, ret, end, ask, read, stateOf, contentsOf, _>>=_, answer, log, viewed}
+use Rattle.definition.specs.Ask.{Listing, Consult, Step, go, stop, Ask, ret, end, ask, read, stateOf, contentsOf, _>>=_, answer, log, viewed}
 
 module _ {E M : Type 0} where
   -- what comes after a routine: nothing once the lookup has ended

@@ -1,15 +1,15 @@
--- HOW LONG A LIST CAN BE: the rules. Assumes nothing.
-use mathlib.Core.Path.{_≡_, refl, sym, _∙_, ap, subst}
+-- HOW LONG A LIST CAN BE: the rules.
+use mathlib.Core.Path.{_≡_, refl, sym, _∙_}
 use mathlib.Core.Bool.{Bool, true, false}
-use mathlib.Core.List.{List, [], _∷_, _++_}
+use mathlib.Core.List.{List, [], _∷_}
 use mathlib.Core.Option.{Option, none, some}
-use Prim.Native.Nat.{ℕ, zero, suc, _+_, _*_, _≤_, zero-le, suc-le-suc}
+use Prim.Native.Nat.{ℕ, suc, _+_, _*_, _≤_, zero-le, suc-le-suc}
 use native.Mathlib.Omega.{arith}
 use native.Mathlib.Nat.{suc-mul}
 use lib.ListN.{length, length-append}
 use Rattle.definition.specs.Text.{Text}
-use Rattle.definition.specs.Ask.{State, absent, directory, file, Listing, Consult, Step, go, stop, Ask, ret, end, ask, read, stateOf, contentsOf, answer, log, _>>=_, _>>_}
-use Rattle.definition.specs.Manifest.{End, Stop, Manifest}
+use Rattle.definition.specs.Ask.{State, absent, directory, file, Listing, Step, go, stop, Ask, ret, end, ask, read, stateOf, contentsOf, answer, log, _>>=_, _>>_}
+use Rattle.definition.specs.Manifest.{Stop, Manifest}
 use Rattle.definition.specs.Json.{Fault}
 use Rattle.definition.specs.Walk.{Look, never, when, unless, perhaps, forEach, given, isDir, isDirState, isFile}
 use Rattle.definition.specs.AskLaws.{then-answer, then-log, answer-bind, log-bind}

@@ -1,7 +1,7 @@
 -- THE CHOSEN KEY of an exports map, with "matches" written without the search: it matches, it is preferred to every other key that
 -- matches, none is chosen only where none matches, and it is the same in every order of the map.
 use mathlib.Core.Path.{_≡_, refl, sym, _∙_, ap, subst}
-use Prim.Native.Nat.{ℕ, zero, suc, _+_, _-_, _≤_, _<_, Ordering, Ordering·lt, Ordering·eq, Ordering·gt}
+use Prim.Native.Nat.{ℕ, suc, _+_, _-_, _≤_, _<_, Ordering, Ordering·lt, Ordering·eq, Ordering·gt}
 use native.Mathlib.Omega.{arith}
 use mathlib.Core.Bool.{Bool, true, false, not, _&&_, _||_, true≢false, false≢true}
 use mathlib.Core.List.{List, [], _∷_, _++_, append-assoc, List·Memᴰ, List·Memᴰ·head, List·Memᴰ·tail, List·Memᴰ·not-nil, List·Permᴰ}
@@ -12,8 +12,8 @@ use lib.Seq.{drop-drop, drop-append-seam}
 use lib.Dec.{eqb, leb, ltb}
 use borrow.Author.Tests.{eq-eqb, eqb-true, eqb-false, leb-true, le-leb, ltb-true, ltb-false, lt-ltb, not-true}
 use Rattle.definition.specs.Text.{Text, text, if_then_else_, star, equal, startsWith, endsWith, contains, before, after}
-use Rattle.definition.specs.TextLaws.{and-true, equal-true, equal-refl, startsWith-take, startsWith-length, endsWith-drop, before-after, before-after-length}
-use Rattle.definition.specs.Exports.{Entry, isGt, PATTERN-KEY-COMPARE, starMatch, isSubpathKey, patternMatch, isMatch, matches, bestKey, better, best}
+use Rattle.definition.specs.TextLaws.{and-true, equal-true, equal-refl, startsWith-take, before-after, before-after-length}
+use Rattle.definition.specs.Exports.{Entry, isGt, PATTERN-KEY-COMPARE, starMatch, isSubpathKey, patternMatch, isMatch, matches, better, best}
 use Rattle.definition.specs.KeyOrderLaws.{Kind, pattern, folder, kind-of, some-if, none-if, either-if, or-true, rank, rank-inj, compare-rank}
 use Rattle.definition.specs.FoldLaws.{greater}
 use Rattle.definition.specs.ChosenKeyLaws.{Functional, score, byScore, Best, keeps, better-is, best-perm}

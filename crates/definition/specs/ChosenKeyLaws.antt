@@ -1,9 +1,9 @@
 -- THE SEARCH FOR THE BEST KEY takes the greatest by a number, and so the same in every order of the members. The theorem: ChosenKey.
-use mathlib.Core.Path.{_≡_, refl, sym, _∙_, ap, subst}
-use Prim.Native.Nat.{ℕ, zero, suc, _+_, _≤_, _<_}
+use mathlib.Core.Path.{_≡_, refl, sym, _∙_, ap}
+use Prim.Native.Nat.{ℕ, suc}
 use native.Mathlib.Omega.{arith}
-use mathlib.Core.Bool.{Bool, true, false, not, _&&_, _||_, true≢false, false≢true}
-use mathlib.Core.List.{List, [], _∷_, _++_, List·Memᴰ, List·Memᴰ·head, List·Memᴰ·tail, List·Permᴰ, List·Permᴰ·nil, List·Permᴰ·cons, List·Permᴰ·swap, List·Permᴰ·trans, Permᴰ·symm}
+use mathlib.Core.Bool.{Bool, true, false, _&&_, true≢false}
+use mathlib.Core.List.{List, [], _∷_, List·Memᴰ, List·Permᴰ}
 use mathlib.Core.Option.{Option, none, some}
 use lib.Dec.{ltb, leb·suc-suc}
 use borrow.Author.Tests.{lt-ltb}
@@ -11,7 +11,7 @@ use Rattle.definition.specs.Text.{if_then_else_, equal}
 use Rattle.definition.specs.TextLaws.{equal-true, equal-refl}
 use Rattle.definition.specs.Exports.{Entry, isGt, PATTERN-KEY-COMPARE, matches, bestKey, better, best}
 use Rattle.definition.specs.KeyOrderLaws.{rank, rank-inj, compare-rank}
-use Rattle.definition.specs.FoldLaws.{mem-perm, fold, fold-perm, greater, greater-commutes}
+use Rattle.definition.specs.FoldLaws.{fold, fold-perm, greater, greater-commutes}
 
 -- a key leads to one entry: what distinct keys give, and the same in every order
 abbrev pub Functional : List Entry → Type 0

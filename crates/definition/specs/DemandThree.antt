@@ -1,9 +1,8 @@
--- THE PROMISES about the definition and about whole calls, on bytes. Assumes nothing.
-use mathlib.Core.Path.{_≡_, refl, sym, _∙_, ap}
-use mathlib.Core.Bool.{Bool, true, false, _&&_}
-use mathlib.Core.List.{List, [], _∷_, List·Memᴰ}
-use mathlib.Core.Option.{Option, none, some}
-use Prim.Native.Nat.{ℕ, zero, suc, _+_, _*_, _≤_}
+-- THE PROMISES about the definition and about whole calls, on bytes.
+use mathlib.Core.Path.{_≡_, sym, _∙_, ap}
+use mathlib.Core.Bool.{true, _&&_}
+use mathlib.Core.List.{List, List·Memᴰ}
+use Prim.Native.Nat.{ℕ, _+_, _*_, _≤_}
 use native.Mathlib.Omega.{arith}
 use lib.ListN.{length}
 use Rattle.definition.specs.TextLaws.{and-true}
@@ -11,16 +10,16 @@ use Rattle.definition.specs.Path.{dirs}
 use Rattle.definition.specs.WalkPathLaws.{length-dirs}
 use Rattle.definition.specs.Reordered.{SameManifest, Agrees}
 use Rattle.definition.specs.Text.{Text}
-use Rattle.definition.specs.Listing.{Entry, directoryEntry, entryAt, isDirectoryOf, rows, height, passes30, passes31, passes32, accepted}
-use Rattle.definition.specs.Ask.{State, directory, Listing, Consult, stateOf, seen}
+use Rattle.definition.specs.Listing.{directoryEntry, entryAt, isDirectoryOf, rows, height, passes30, passes31, passes32, accepted}
+use Rattle.definition.specs.Ask.{directory, Consult, stateOf, seen}
 use Rattle.definition.specs.ViewLaws.{same-answer, same-log}
-use Rattle.definition.specs.Settings.{Settings, settingsOf, textsOf, passes24}
-use Rattle.definition.specs.Manifest.{End, isAnswer, view}
+use Rattle.definition.specs.Settings.{Settings, settingsOf, passes24}
+use Rattle.definition.specs.Manifest.{isAnswer, view}
 use Rattle.definition.specs.Walk.{lookup, ending}
 use Rattle.definition.specs.LengthBound.{most-lookup, limits}
 use Rattle.definition.specs.ManifestViewLaws.{kept}
-use Rattle.definition.specs.DepthLaws.{tall, folder-of, folder-at, height-low, Few, few}
-use Rattle.definition.specs.Called.{Question, Defined, definition, seenBy, endOf, listOf, W, formula, Rooms, Left, check, refusalOf, delivered, unlessRefused, called}
+use Rattle.definition.specs.DepthLaws.{tall, folder-of, folder-at, height-low, few}
+use Rattle.definition.specs.Called.{Question, definition, seenBy, endOf, listOf, W, formula, Rooms, refusalOf, called}
 use Rattle.definition.specs.AskLaws.{state-viewed}
 
 -- one question asked of a listing

@@ -1,21 +1,19 @@
 -- Demand 3 at work, on bytes: a second listing in which the manifest's exports map is reordered and other entries stand elsewhere.
--- Assumes nothing.
-use mathlib.Core.Path.{_≡_, refl, sym, _∙_, ap, subst}
-use mathlib.Core.Bool.{Bool, true, false}
+--
+use mathlib.Core.Path.{_≡_, refl, subst}
+use mathlib.Core.Bool.{true}
 use mathlib.Core.List.{List, [], _∷_, _++_, List·Memᴰ, List·Memᴰ·head, List·Memᴰ·tail, List·Memᴰ·not-nil, List·Permᴰ·swap}
-use mathlib.Core.Logic.{_⊎_, inl, inr}
+use mathlib.Core.Logic.{inr}
 use Prim.Native.Nat.{ℕ, _+_, _*_, _/_, _%_}
 use native.Mathlib.Omega.{arith}
-use lib.ListN.{length}
-use Rattle.definition.specs.Text.{text, text-computes, Text}
-use Rattle.definition.specs.Json.{Json, str, parse, json-computes}
+use Rattle.definition.specs.Text.{text, text-computes}
+use Rattle.definition.specs.Json.{str, json-computes}
 use Rattle.definition.specs.Exports.{isSubpathKey}
-use Rattle.definition.specs.Reordered.{ObjectText, filled, MapReordered, MemberReordered, unchanged, ownMap, RootReordered, Reordered, SameManifest, SubpathMap, Piece, Layout, memberAt, allSpace, entriesOf, Alike, Agrees, lastPiece, nextPiece}
-use Rattle.definition.specs.Listing.{Entry, noEntry, directoryEntry, fileEntry, accepted, entryAt, isDirectoryOf, listing-computes}
+use Rattle.definition.specs.Reordered.{filled, MapReordered, ownMap, RootReordered, Reordered, SubpathMap, Piece, memberAt, allSpace, entriesOf, Agrees, lastPiece, nextPiece}
+use Rattle.definition.specs.Listing.{Entry, fileEntry, accepted, isDirectoryOf, listing-computes}
 use Rattle.definition.specs.Ask.{Consult}
-use Rattle.definition.specs.Settings.{settingsOf, settings-computes}
 use Rattle.definition.specs.Manifest.{isAnswer}
-use Rattle.definition.specs.Called.{Question, endOf, listOf, definition-computes}
+use Rattle.definition.specs.Called.{endOf, listOf, definition-computes}
 use Rattle.definition.specs.DemandThree.{questionOf, Demand3, demand-3}
 
 num : ℕ → List ℕ → List ℕ

@@ -1,11 +1,11 @@
 -- The letters of 01's formula on the listing's bytes: every directory of a listing is at most `height` directories from "/", and of an
--- accepted one at most 33. Assumes nothing.
-use mathlib.Core.Path.{_≡_, refl, sym, _∙_, ap}
+-- accepted one at most 33.
+use mathlib.Core.Path.{_≡_, refl}
 use mathlib.Core.Bool.{Bool, true, false, _&&_, _||_}
 use mathlib.Core.List.{List, [], _∷_}
-use Prim.Native.Nat.{ℕ, zero, suc, _+_, _*_, _≤_, max, min}
+use Prim.Native.Nat.{ℕ, suc, _+_, _≤_, max}
 use native.Mathlib.Omega.{arith}
-use lib.ListN.{length, take, drop, length-take}
+use lib.ListN.{length, length-take}
 use lib.Dec.{leb, eqb}
 use borrow.Author.Tests.{leb-true}
 use Rattle.definition.specs.Text.{text, if_then_else_, slash, equal, count, all, Text}
@@ -13,8 +13,8 @@ use Rattle.definition.specs.TextLaws.{and-true, equal-true}
 use Rattle.definition.specs.Path.{dirs, depth}
 use Rattle.definition.specs.WalkPathLaws.{length-dirs}
 use Rattle.definition.specs.Listing.{Entry, noEntry, directoryEntry, fileEntry, Row, rows, entryOf, entryIn, entryAt, height, rowFits, passes30, sizesFit, isManifest, isDirectoryEntry, isDirectoryOf}
-use Rattle.definition.specs.Ask.{State, absent, directory, file, stateOf}
-use Rattle.definition.specs.Settings.{Settings, countOf, countBefore, sum, textLengths, allTexts, isSetting, isNonEmpty, textsOf, passes24}
+use Rattle.definition.specs.Ask.{directory, stateOf}
+use Rattle.definition.specs.Settings.{countOf, countBefore, sum, textLengths, allTexts, isSetting, isNonEmpty, textsOf, passes24}
 
 -- the directories found are entries
 module _ (p : Text) where

@@ -1,15 +1,16 @@
 -- WHAT THE EXPORTS ALGORITHMS KEEP: an induction over PACKAGE_EXPORTS_RESOLVE, once for all that is proved of what it gives. S holds of
 -- the strings and names of the exports value, C of the context, R of a request, and O of every outcome.
-use mathlib.Core.Path.{_≡_, refl, sym, _∙_, ap}
+use mathlib.Core.Path.{_≡_}
 use Prim.Native.Nat.{ℕ}
-use mathlib.Core.Bool.{Bool, true, false, not, _&&_, _||_, true≢false, false≢true}
-use mathlib.Core.List.{List, [], _∷_, _++_}
+use native.Mathlib.Omega.{arith}
+use mathlib.Core.Bool.{Bool, true, false, _&&_, _||_}
+use mathlib.Core.List.{List}
 use mathlib.Core.Option.{Option, none, some}
 use Rattle.definition.specs.Text.{text, if_then_else_, star, equal, contains, isOneOf, endsWith}
 use Rattle.definition.specs.Path.{manifestOf}
 use Rattle.definition.specs.Specifier.{parseSpecifier}
 use Rattle.definition.specs.Json.{Json, scalar, str, arr, obj, Elements, noElement, element, Members, noMember, member}
-use Rattle.definition.specs.Exports.{InvalidPackageConfig, PackagePathNotExported, Context, Outcome, found, nothing, failed, overlong, Resolved, orGoOn, orNext, Entry, entries, get, isGt, PATTERN-KEY-COMPARE, matches, bestKey, better, best, literal, Request, stringTarget, orDot, pathNotExported, isEmpty, PACKAGE-TARGET-RESOLVE, eachCondition, eachElement, bestResolve, literalOr, PACKAGE-IMPORTS-EXPORTS-RESOLVE, isMixed, dotOr, mainExport, mainResolve, keyResolve, PACKAGE-EXPORTS-RESOLVE, isSubpathKey, anyKey, patternMatch}
+use Rattle.definition.specs.Exports.{Failure, InvalidPackageConfig, PackagePathNotExported, Context, Outcome, found, nothing, failed, overlong, Resolved, orGoOn, orNext, Entry, entries, get, isGt, PATTERN-KEY-COMPARE, matches, bestKey, better, best, literal, Request, stringTarget, orDot, pathNotExported, isEmpty, PACKAGE-TARGET-RESOLVE, eachCondition, eachElement, bestResolve, literalOr, PACKAGE-IMPORTS-EXPORTS-RESOLVE, isMixed, dotOr, mainExport, mainResolve, keyResolve, PACKAGE-EXPORTS-RESOLVE, isSubpathKey, anyKey, patternMatch}
 
 -- S holds of every string and of every member's name in a value
 unfoldable mutual
@@ -155,3 +156,30 @@ module _ {S : List ℕ → Type 0} {C : Context → Type 0} {R : Request → Typ
       (orGoOn-kept (mainResolve url conds (if equal sub (text ".") then mainExport j else none) c) (λ d. orGoOn (keyResolve url conds sub j d) λ e. record { context = e; outcome = failed (PackagePathNotExported sub url) })
       (main-kept (if equal sub (text ".") then mainExport j else none) c (option-if Json (Strings S) (equal sub (text ".")) (mainExport j) none (main-has j s) tt) h) (λ d g.
       orGoOn-kept (keyResolve url conds sub j d) (λ e. record { context = e; outcome = failed (PackagePathNotExported sub url) }) (key-kept j d s g) (λ e k. record { context = k; outcome = notExported })))
+
+-- AN EXPORTS FIELD THAT IS PRESENT never gives nothing: it gives a path, an error or a refusal
+unfoldable pub Something : Outcome → Type 0
+Something o = o ≡ nothing → ⊥
+
+failed-some : (f : Failure) → Something (failed f)
+unfolding Something
+failed-some f e = let z : _≡_ {A = ℕ} 0 1 = cc in omega arith
+
+orGoOn-some : (c : Context) (o : Outcome) (k : Context → Resolved) → ((d : Context) → Something (k d .outcome)) → Something (orGoOn (record { context = c; outcome = o }) k .outcome)
+unfolding Something
+orGoOn-some c (found p) k h = λ e. let z : _≡_ {A = ℕ} 0 1 = cc in omega arith
+orGoOn-some c nothing k h = h c
+orGoOn-some c (failed f) k h = failed-some f
+orGoOn-some c overlong k h = λ e. let z : _≡_ {A = ℕ} 0 1 = cc in omega arith
+
+if-some : (u : Bool) (r s : Resolved) → Something (r .outcome) → Something (s .outcome) → Something ((if u then r else s) .outcome)
+if-some true r s x y = x
+if-some false r s x y = y
+
+pub never-nothing : (url : List ℕ) (conds : List (List ℕ)) (sub : List ℕ) (j : Json) (c : Context) → Something (PACKAGE-EXPORTS-RESOLVE url conds sub j c .outcome)
+unfolding PACKAGE-EXPORTS-RESOLVE pathNotExported
+never-nothing url conds sub j c =
+    let main = mainResolve url conds (if equal sub (text ".") then mainExport j else none) c in
+    if-some (isMixed j) _ _ (failed-some (InvalidPackageConfig (manifestOf url)))
+    (orGoOn-some (main .context) (main .outcome) (λ d. orGoOn (keyResolve url conds sub j d) λ e. record { context = e; outcome = failed (PackagePathNotExported sub url) }) (λ d.
+    orGoOn-some (keyResolve url conds sub j d .context) (keyResolve url conds sub j d .outcome) (λ e. record { context = e; outcome = failed (PackagePathNotExported sub url) }) (λ e. failed-some (PackagePathNotExported sub url))))

@@ -1,15 +1,14 @@
 -- PACKAGE_EXPORTS_RESOLVE on a map of subpath keys, each leading to one entry, gives the same in every order of the members.
-use mathlib.Core.Path.{_≡_, refl, sym, _∙_, ap, subst}
-use Prim.Native.Nat.{ℕ, zero, suc, _+_, _≤_, _<_}
-use native.Mathlib.Omega.{arith}
-use mathlib.Core.Bool.{Bool, true, false, not, _&&_, _||_, true≢false, false≢true}
+use mathlib.Core.Path.{_≡_, refl, sym, _∙_, ap}
+use Prim.Native.Nat.{ℕ}
+use mathlib.Core.Bool.{Bool, true, false, not, _||_}
 use mathlib.Core.List.{List, [], _∷_, List·Memᴰ, List·Memᴰ·head, List·Memᴰ·tail, List·Memᴰ·not-nil, List·Permᴰ, List·Permᴰ·nil, List·Permᴰ·cons, List·Permᴰ·swap, List·Permᴰ·trans, Permᴰ·symm}
 use mathlib.Core.Option.{Option, none, some}
 use mathlib.Core.Logic.{_⊎_, inl, inr}
 use Rattle.definition.specs.Text.{text, if_then_else_, equal}
-use Rattle.definition.specs.TextLaws.{and-true, equal-true, equal-refl}
+use Rattle.definition.specs.TextLaws.{equal-true, equal-refl}
 use Rattle.definition.specs.Json.{Json, obj, Members, noMember, member}
-use Rattle.definition.specs.Exports.{Context, Resolved, Entry, entries, get, anyKey, isSubpathKey, isDotKey, best, literal, literalOr, bestResolve, PACKAGE-IMPORTS-EXPORTS-RESOLVE, isMixed, dotOr, mainExport, mainResolve, keyResolve, PACKAGE-EXPORTS-RESOLVE}
+use Rattle.definition.specs.Exports.{Context, Entry, entries, get, anyKey, isSubpathKey, isDotKey, literal, literalOr, PACKAGE-IMPORTS-EXPORTS-RESOLVE, isMixed, dotOr, mainExport, keyResolve, PACKAGE-EXPORTS-RESOLVE}
 use Rattle.definition.specs.Reordered.{SubpathMap}
 use Rattle.definition.specs.FoldLaws.{mem-perm}
 use Rattle.definition.specs.ChosenKeyLaws.{Functional, best-perm}

@@ -1,7 +1,7 @@
 -- HOW LONG THE TEXTS ARE: no path that is built has over 2,048 bytes, and the texts of what exports give, a path with query and fragment or
 -- an error, have at most 6,157 together.
-use mathlib.Core.Path.{_≡_, refl, sym, _∙_, ap}
-use Prim.Native.Nat.{ℕ, zero, suc, _+_, _-_, _*_, _≤_, _<_}
+use mathlib.Core.Path.{_≡_, refl}
+use Prim.Native.Nat.{ℕ, zero, suc, _+_, _-_, _*_, _≤_}
 use native.Mathlib.Omega.{arith}
 use mathlib.Core.Bool.{Bool, true, false, not, _&&_, _||_}
 use mathlib.Core.List.{List, [], _∷_, _++_, flatMap}
@@ -9,13 +9,13 @@ use mathlib.Core.Option.{Option, none, some}
 use lib.ListN.{length, drop, take, length-append, length-take, length-drop}
 use lib.Dec.{eqb, leb, ltb}
 use borrow.Author.Tests.{leb-true, ltb-false}
-use Rattle.definition.specs.Text.{text, if_then_else_, slash, star, hash, question, equal, startsWith, endsWith, contains, containsText, before, from, after, beforeLast, split, toFirst, utf8}
-use Rattle.definition.specs.TextLaws.{equal-true}
+use Rattle.definition.specs.Text.{text, if_then_else_, star, hash, question, equal, startsWith, endsWith, contains, containsText, before, from, after, utf8}
 use Rattle.definition.specs.TextSteps.{before-inside}
-use Rattle.definition.specs.Path.{Component, rootDir, curDir, parentDir, normal, component, leading, components, push, orRoot, parent, pops, Built, built, tooLong, andPath, limited, pushComponent, pushAll, normalizeOnto, normalizeWith, pushRelative, normalizeRelative, isInvalidExportsTarget, addExtension, addNameAndExtension, manifestOf, depth, climb, dirs}
-use Rattle.definition.specs.Specifier.{Specifier, parsed, emptySpecifier, beforeFragment, unescape, pathBefore, orEmpty, parseSpecifier, packageName, packageSubpath, dotSubpath, stripPackageName, normalizedSpecifier, climbing}
+use Rattle.definition.specs.Path.{Component, rootDir, curDir, parentDir, normal, components, push, parent, Built, built, tooLong, andPath, limited, pushComponent, pushAll, normalizeOnto, normalizeWith, normalizeRelative, isInvalidExportsTarget, addExtension, addNameAndExtension, manifestOf, depth, climb, dirs}
+use Rattle.definition.specs.PathLaws.{parent-short, normalizeRelative-short}
+use Rattle.definition.specs.Specifier.{Specifier, parsed, emptySpecifier, beforeFragment, body, unescape, pathBefore, orEmpty, parseSpecifier, packageName, packageSubpath, dotSubpath, stripPackageName, normalizedSpecifier, climbing}
 use Rattle.definition.specs.Json.{Json}
-use Rattle.definition.specs.Exports.{Failure, NotFound, Empty, InvalidPackageTarget, PackagePathNotExported, InvalidPackageConfig, InvalidPackageConfigDirectory, JsonError, failureTexts, Context, Outcome, found, nothing, failed, overlong, Resolved, orOld, withQueryFragment, starMatch, isSubpathKey, patternMatch, Target, target, directoryError, normalizeStringTarget, Request, outcomeOf, invalidTarget, targetPath, stringTarget, orDot, pathNotExported, PACKAGE-EXPORTS-RESOLVE}
+use Rattle.definition.specs.Exports.{Failure, failureTexts, Context, Outcome, found, nothing, failed, overlong, orOld, withQueryFragment, starMatch, isSubpathKey, patternMatch, Target, target, directoryError, Request, outcomeOf, invalidTarget, targetPath, stringTarget, orDot, pathNotExported, PACKAGE-EXPORTS-RESOLVE}
 use Rattle.definition.specs.Called.{joined}
 use Rattle.definition.specs.ExportsLaws.{Strings, Kept, Keeps, exports-kept}
 use Rattle.definition.specs.StringBound.{Small}
@@ -88,6 +88,11 @@ beforeFragment-short p (b ∷ s) =
     let h : length (beforeFragment b s) ≤ length s = beforeFragment-short b s in
     if-short (suc (length s)) (eqb b hash && not (eqb p 0)) [] (b ∷ beforeFragment b s) (omega arith) (omega arith)
 
+body-short : (s : List ℕ) → length (body s) ≤ length s
+unfolding body
+body-short [] = omega arith
+body-short (b ∷ s) = omega (arith, beforeFragment-short b s)
+
 unescape-short : (s : List ℕ) → length (unescape s) ≤ length s
 unfolding unescape
 unescape-short [] = omega arith
@@ -116,14 +121,12 @@ orEmpty-fits (b ∷ p) q f x y z = (x, (y, z))
 
 parse-fits : (s : List ℕ) → Small s → SpecifierFits (parseSpecifier s)
 unfolding parseSpecifier from
-parse-fits [] h = tt
-parse-fits (b ∷ s) h =
-    let body = b ∷ beforeFragment b s in
-    let l : length body ≤ length (b ∷ s) = let x = beforeFragment-short b s in omega arith in
-    orEmpty-fits (pathBefore body) (drop (length (before question body)) body) (drop (length body) (b ∷ s))
-    (omega (arith, path-short body))
-    (omega (arith, length-drop (length (before question body)) body))
-    (omega (arith, length-drop (length body) (b ∷ s)))
+parse-fits s h =
+    let l : length (body s) ≤ length s = body-short s in
+    orEmpty-fits (pathBefore (body s)) (drop (length (before question (body s))) (body s)) (drop (length (body s)) s)
+    (omega (arith, path-short (body s)))
+    (omega (arith, length-drop (length (before question (body s))) (body s)))
+    (omega (arith, length-drop (length (body s)) s))
 
 -- Exports ---------------------------------------------------------------------------------------------------------------------------
 
@@ -267,29 +270,6 @@ dot-short n s h = if-short (suc n) (startsWith (text ".") s) s (text "." ++ s) (
 -- Directories -----------------------------------------------------------------------------------------------------------------------
 
 -- the directories above a path are no longer than it
-beforeLast-short : (c : ℕ) (s : List ℕ) → length (beforeLast c s) ≤ length s
-unfolding beforeLast
-beforeLast-short c [] = omega arith
-beforeLast-short c (b ∷ s) = go (contains c s) (eqb b c) (beforeLast-short c s)
-  where
-    go : (u v : Bool) → length (beforeLast c s) ≤ length s → length (if u then b ∷ beforeLast c s else if v then [] else b ∷ s) ≤ suc (length s)
-    go true v h = omega arith
-    go false true h = omega arith
-    go false false h = omega arith
-
-orRoot-short : (n : ℕ) (s : List ℕ) → length s ≤ n → 1 ≤ n → length (orRoot s) ≤ n
-unfolding orRoot
-orRoot-short n [] h k = k
-orRoot-short n (b ∷ s) h k = h
-
-pub parent-short : (n : ℕ) (p : List ℕ) → length p ≤ n → 1 ≤ n → length (parent p) ≤ n
-unfolding parent
-parent-short n p h k = go (contains slash p)
-  where
-    go : (u : Bool) → length (if u then orRoot (beforeLast slash p) else []) ≤ n
-    go true = orRoot-short n (beforeLast slash p) (omega (arith, beforeLast-short slash p)) k
-    go false = omega arith
-
 abbrev pub AllAtMost : ℕ → List (List ℕ) → Type 0
 AllAtMost n [] = Unit {0}
 AllAtMost n (p ∷ ps) = (length p ≤ n) × AllAtMost n ps
@@ -303,108 +283,16 @@ pub dirs-short : (n : ℕ) (p : List ℕ) → length p ≤ n → 1 ≤ n → All
 unfolding dirs
 dirs-short n p h k = climb-short n (depth p) p h k
 
--- the bytes that the components of a path come to, with a slash for each
-abbrev weight : List Component → ℕ
-weight [] = 0
-weight (rootDir ∷ cs) = 1 + weight cs
-weight (curDir ∷ cs) = weight cs
-weight (parentDir ∷ cs) = 3 + weight cs
-weight (normal c ∷ cs) = suc (length c) + weight cs
-
-weight-append : (xs ys : List Component) → weight (xs ++ ys) ≡ weight xs + weight ys
-weight-append [] ys = omega arith
-weight-append (rootDir ∷ xs) ys = omega (arith, weight-append xs ys)
-weight-append (curDir ∷ xs) ys = weight-append xs ys
-weight-append (parentDir ∷ xs) ys = omega (arith, weight-append xs ys)
-weight-append (normal c ∷ xs) ys = omega (arith, weight-append xs ys)
-
-component-weight : (s : List ℕ) → weight (component s) ≤ suc (length s)
-unfolding component
-component-weight s = by (equal s [] || equal s (text ".")) (equal s (text "..")) refl
-  where
-    by : (u v : Bool) → equal s (text "..") ≡ v → weight (if u then [] else if v then parentDir ∷ [] else normal s ∷ []) ≤ suc (length s)
-    by true v e = omega arith
-    by false true e = let x : length s ≡ 2 = ap length (equal-true s (text "..") e) in omega arith
-    by false false e = omega arith
-
-abbrev sizes : List (List ℕ) → ℕ
-sizes [] = 0
-sizes (s ∷ ss) = suc (length s) + sizes ss
-
-parts-weight : (ss : List (List ℕ)) → weight (flatMap component ss) ≤ sizes ss
-unfolding flatMap
-parts-weight [] = omega arith
-parts-weight (s ∷ ss) = omega (arith, weight-append (component s) (flatMap component ss), component-weight s, parts-weight ss)
-
-split-some : (c : ℕ) (s : List ℕ) → 1 ≤ length (split c s)
-unfolding split
-split-some c [] = omega arith
-split-some c (b ∷ s) = by (eqb b c)
-  where
-    first : (ps : List (List ℕ)) → 1 ≤ length (toFirst b ps)
-    first [] = unfold toFirst in (omega arith)
-    first (p ∷ ps) = unfold toFirst in (omega arith)
-
-    by : (u : Bool) → 1 ≤ length (if u then [] ∷ split c s else toFirst b (split c s))
-    by true = omega arith
-    by false = first (split c s)
-
-split-sizes : (s : List ℕ) → sizes (split slash s) ≡ suc (length s)
-unfolding split
-split-sizes [] = refl
-split-sizes (b ∷ s) = by (eqb b slash) (split-sizes s)
-  where
-    first : (ps : List (List ℕ)) → 1 ≤ length ps → sizes (toFirst b ps) ≡ suc (sizes ps)
-    first [] h = absurd (omega arith)
-    first (p ∷ ps) h = unfold toFirst in (omega arith)
-
-    by : (u : Bool) → sizes (split slash s) ≡ suc (length s) → sizes (if u then [] ∷ split slash s else toFirst b (split slash s)) ≡ suc (suc (length s))
-    by true h = omega arith
-    by false h = omega (arith, first (split slash s) (split-some slash s))
-
-leading-weight : (ss : List (List ℕ)) → weight (leading ss) ≤ sizes ss
-unfolding leading
-leading-weight [] = omega arith
-leading-weight (s ∷ ss) = by (equal s (text "."))
-  where
-    by : (u : Bool) → weight ((if u then curDir ∷ [] else component s) ++ flatMap component ss) ≤ sizes (s ∷ ss)
-    by true = omega (arith, parts-weight ss)
-    by false = omega (arith, weight-append (component s) (flatMap component ss), component-weight s, parts-weight ss)
-
-components-weight : (s : List ℕ) → weight (components s) ≤ 2 + length s
-unfolding components
-components-weight s = by (startsWith (text "/") s)
-  where
-    by : (u : Bool) → weight (if u then rootDir ∷ flatMap component (split slash s) else leading (split slash s)) ≤ 2 + length s
-    by true = omega (arith, parts-weight (split slash s), split-sizes s)
-    by false = omega (arith, leading-weight (split slash s), split-sizes s)
-
-push-short : (p c : List ℕ) → length (push p c) ≤ length p + suc (length c)
-unfolding push
-push-short p c =
-    if-short (length p + suc (length c)) (equal p [] || endsWith (text "/") p) (p ++ c) (p ++ text "/" ++ c)
-    (omega (arith, length-append p c)) (omega (arith, length-append p (text "/"), length-append (p ++ text "/") c))
-
-relative-short : (cs : List Component) (p : List ℕ) → length (pushRelative cs p) ≤ length p + weight cs
-unfolding pushRelative
-relative-short [] p = omega arith
-relative-short (rootDir ∷ cs) p = omega (arith, relative-short cs (text "/"))
-relative-short (curDir ∷ cs) p = relative-short cs p
-relative-short (normal c ∷ cs) p = omega (arith, relative-short cs (push p c), push-short p c)
-relative-short (parentDir ∷ cs) p =
-    let q = if pops p then parent p else push p (text "..") in
-    let h : length q ≤ length p + 3 = if-short (length p + 3) (pops p) (parent p) (push p (text "..")) (omega (arith, parent-short (suc (length p)) p (omega arith) (omega arith))) (push-short p (text "..")) in
-    omega (arith, relative-short cs q)
+-- the specifier of the second walk
+pub normalized-short : (n : ℕ) (s : List ℕ) → length s ≤ n → length (normalizedSpecifier s) ≤ n + 3
+unfolding normalizedSpecifier
+normalized-short n s h =
+    omega (arith, normalizeRelative-short s, length-append (normalizeRelative s) (if endsWith (text "/") s then text "/" else []), if-short 1 (endsWith (text "/") s) (text "/") [] (omega arith) (omega arith))
 
 pub climbing-short : (n : ℕ) (s t : List ℕ) → length s ≤ n → climbing s ≡ some t → length t ≤ n + 3
 unfolding climbing
 climbing-short n s t h e = by ((containsText (text "/../..") s || containsText (text "../../") s) && equal (packageName (normalizedSpecifier s)) (text "..")) e
   where
-    whole : length (normalizedSpecifier s) ≤ n + 3
-    whole =
-        unfold normalizedSpecifier normalizeRelative in
-        (omega (arith, relative-short (components s) [], components-weight s, length-append (pushRelative (components s) []) (if endsWith (text "/") s then text "/" else []), if-short 1 (endsWith (text "/") s) (text "/") [] (omega arith) (omega arith)))
-
     by : (u : Bool) → (if u then some (normalizedSpecifier s) else none) ≡ some t → length t ≤ n + 3
-    by true e = let x : normalizedSpecifier s ≡ t = cc in rw (← x) whole
+    by true e = let x : normalizedSpecifier s ≡ t = cc in rw (← x) (normalized-short n s h)
     by false e = absurd (let z : _≡_ {A = ℕ} 0 1 = cc in omega arith)

@@ -1,19 +1,19 @@
--- WHAT IS FOUND IS A FILE of the listing, and it is the last consult. Assumes nothing.
+-- WHAT IS FOUND IS A FILE of the listing, and it is the last consult.
 use mathlib.Core.Path.{_≡_, refl, sym, _∙_, ap}
 use mathlib.Core.Bool.{Bool, true, false}
 use mathlib.Core.List.{List, [], _∷_, _++_, append-assoc, append-nil}
 use mathlib.Core.Option.{Option, none, some}
 use Prim.Native.Nat.{ℕ}
 use native.Mathlib.Omega.{arith}
-use Rattle.definition.specs.Text.{text, equal, startsWith, endsWith, Text}
+use Rattle.definition.specs.Text.{Text}
 use Rattle.definition.specs.Path.{Built, built, tooLong, dirs}
-use Rattle.definition.specs.Specifier.{packageName, packageSubpath, climbing}
-use Rattle.definition.specs.Listing.{Entry, directoryEntry, entryAt}
-use Rattle.definition.specs.Ask.{State, absent, directory, file, Listing, Consult, Step, go, stop, Ask, ret, end, ask, read, number, stateOf, contentsOf, asked, opened, answer, log, _>>=_, _>>_, seen}
+use Rattle.definition.specs.Specifier.{climbing}
+use Rattle.definition.specs.Listing.{entryAt}
+use Rattle.definition.specs.Ask.{State, absent, directory, file, Listing, Consult, Step, go, stop, ret, end, ask, read, number, stateOf, contentsOf, asked, answer, log, _>>=_, _>>_, seen}
 use Rattle.definition.specs.Settings.{Settings, settingsOf}
 use Rattle.definition.specs.Manifest.{Stop, End, found, stopped, Place, Manifest, view}
 use Rattle.definition.specs.Json.{Fault, malformed, beyond, twice}
-use Rattle.definition.specs.Walk.{Look, Scope, never, when, unless, perhaps, forEach, given, isFileState, isDir, isFile, made, at, bare, notFound, sound, under, orAbove, nearest, own, inScopeDir, tryFile, tryExtension, tryIndex, LOAD-AS-FILE, LOAD-INDEX, loadMain, LOAD-AS-DIRECTORY, RESOLVE-ESM-MATCH, byExports, LOAD-PACKAGE-EXPORTS, inScope, LOAD-PACKAGE-SELF, goOn, asDirectory, asFileOrDirectory, inModules, inDirectory, LOAD-NODE-MODULES, lookup, ending}
+use Rattle.definition.specs.Walk.{Look, Scope, never, when, unless, perhaps, forEach, given, isFileState, isDir, isFile, made, notFound, sound, under, orAbove, nearest, own, inScopeDir, tryFile, tryExtension, tryIndex, LOAD-AS-FILE, LOAD-INDEX, loadMain, LOAD-AS-DIRECTORY, RESOLVE-ESM-MATCH, byExports, LOAD-PACKAGE-EXPORTS, inScope, LOAD-PACKAGE-SELF, goOn, asDirectory, asFileOrDirectory, inModules, inDirectory, LOAD-NODE-MODULES, lookup, ending}
 use Rattle.definition.specs.Called.{Question, seenBy, endOf, listOf}
 use Rattle.definition.specs.AskLaws.{then-answer, then-log, answer-bind, log-bind, state-viewed}
 

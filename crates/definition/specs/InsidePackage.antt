@@ -1,6 +1,6 @@
 -- WHAT EXPORTS GIVE IS INSIDE THE PACKAGE: the package's directory, or reached from it by going down one name after another; before
 -- extensions and directories are tried.
-use mathlib.Core.Path.{_≡_, refl, sym, _∙_, ap, subst}
+use mathlib.Core.Path.{_≡_, refl, sym, _∙_, subst}
 use Prim.Native.Nat.{ℕ}
 use native.Mathlib.Omega.{arith}
 use mathlib.Core.Bool.{Bool, true, false, not, _&&_, _||_, true≢false, false≢true}
@@ -10,13 +10,17 @@ use lib.ListN.{length}
 use lib.Dec.{eqb, leb, ltb}
 use borrow.Author.Tests.{eqb-true}
 use Rattle.definition.specs.Text.{Text, text, if_then_else_, slash, star, equal, startsWith, endsWith, contains, split, toFirst, replace}
-use Rattle.definition.specs.TextLaws.{and-true, equal-true}
+use Rattle.definition.specs.TextLaws.{and-true, or-false}
 use Rattle.definition.specs.Path.{Component, rootDir, curDir, parentDir, normal, component, leading, components, push, Built, built, tooLong, andPath, limited, pushComponent, pushAll, normalizeOnto, normalizeWith, invalidComponent, anyInvalid, isInvalidExportsTarget}
+use Rattle.definition.specs.PathLaws.{anyInvalid-append}
 use Rattle.definition.specs.Specifier.{Specifier, parsed, emptySpecifier, parseSpecifier}
 use Rattle.definition.specs.Listing.{isComponent}
 use Rattle.definition.specs.Json.{Json, scalar, str, arr, obj, Elements, noElement, element, Members, noMember, member}
-use Rattle.definition.specs.Exports.{Failure, Context, Outcome, found, nothing, failed, overlong, Resolved, Target, target, directoryError, normalizeStringTarget, Request, outcomeOf, invalidTarget, targetPath, stringTarget, pathNotExported, PACKAGE-EXPORTS-RESOLVE}
-use Rattle.definition.specs.ExportsLaws.{Strings, StringsIn, StringsOf, Kept, Keeps, exports-kept}
+use Rattle.definition.specs.Exports.{Context, Outcome, found, nothing, failed, overlong, target, directoryError, normalizeStringTarget, Request, outcomeOf, invalidTarget, targetPath, stringTarget, pathNotExported, PACKAGE-EXPORTS-RESOLVE}
+use Rattle.definition.specs.Ask.{go}
+use Rattle.definition.specs.Settings.{Settings}
+use Rattle.definition.specs.Manifest.{Place, fresh, resolvedTo, resolveExports}
+use Rattle.definition.specs.ExportsLaws.{Strings, StringsIn, StringsOf, Keeps, exports-kept}
 
 -- one name: not empty, neither "." nor "..", and without "/"
 unfoldable pub isName : Text → Bool
@@ -57,24 +61,12 @@ Names (curDir ∷ cs) = ⊥
 Names (parentDir ∷ cs) = ⊥
 Names (normal c ∷ cs) = (isName c ≡ true) × Names cs
 
-or-false : (a b : Bool) → a || b ≡ false → (a ≡ false) × (b ≡ false)
-or-false true b h = absurd (true≢false h)
-or-false false b h = (refl, h)
-
 names-append : (xs ys : List Component) → Names xs → Names ys → Names (xs ++ ys)
 names-append [] ys a b = b
 names-append (rootDir ∷ xs) ys a b = absurd a
 names-append (curDir ∷ xs) ys a b = absurd a
 names-append (parentDir ∷ xs) ys a b = absurd a
 names-append (normal c ∷ xs) ys a b = (a .0, names-append xs ys (a .1) b)
-
-invalid-append : (xs ys : List Component) → anyInvalid (xs ++ ys) ≡ false → (anyInvalid xs ≡ false) × (anyInvalid ys ≡ false)
-unfolding anyInvalid
-invalid-append [] ys h = (refl, h)
-invalid-append (x ∷ xs) ys h =
-    let o = or-false (invalidComponent x) (anyInvalid (xs ++ ys)) h in
-    let r = invalid-append xs ys (o .1) in
-    (rw (o .0) (r .0), r .1)
 
 component-names : (s : Text) → contains slash s ≡ false → anyInvalid (component s) ≡ false → Names (component s)
 unfolding component anyInvalid invalidComponent isName isComponent
@@ -92,7 +84,7 @@ parts-names : (ss : List Text) → NoSlash ss → anyInvalid (flatMap component 
 unfolding flatMap
 parts-names [] n h = tt
 parts-names (s ∷ ss) n h =
-    let r = invalid-append (component s) (flatMap component ss) h in
+    let r = or-false (anyInvalid (component s)) (anyInvalid (flatMap component ss)) (sym (anyInvalid-append (component s) (flatMap component ss)) ∙ h) in
     names-append (component s) (flatMap component ss) (component-names s (n .0) (r .0)) (parts-names ss (n .1) (r .1))
 
 -- Paths --------------------------------------------------------------------------------------------------------------------------------
@@ -222,3 +214,18 @@ pub exports-inside : (url : Text) (conditions : List Text) (subpath : Text) (exp
 exports-inside url conds sub j c p e =
     let k = exports-kept (keeps-inside url) url conds sub refl refl (λ k _. refl) tt tt j c (any-strings j) tt in
     subst (Inside url) e (k .outcome)
+
+-- the same of what a manifest gives: the path is then tried as a file, with extensions and as a directory
+resolved-inside : (c : Context) (dir sub : Text) (o : Outcome) → Inside dir o → (w : Place) → resolvedTo c dir sub o ≡ go w → Below dir (w .path)
+unfolding resolvedTo
+resolved-inside c dir sub (found p) h w e = let x : record { path = p; query = c .query; fragment = c .fragment } ≡ w = cc in rw (← x) h
+resolved-inside c dir sub nothing h w e = absurd (let z : _≡_ {A = ℕ} 0 1 = cc in omega arith)
+resolved-inside c dir sub (failed f) h w e = absurd (let z : _≡_ {A = ℕ} 0 1 = cc in omega arith)
+resolved-inside c dir sub overlong h w e = absurd (let z : _≡_ {A = ℕ} 0 1 = cc in omega arith)
+
+pub match-inside : (G : Settings) (exports : Json) (dir sub : Text) (w : Place) → resolveExports G exports dir sub ≡ go w → Below dir (w .path)
+unfolding resolveExports
+match-inside G j dir sub w e =
+    let k = exports-kept (keeps-inside dir) dir (G .conditions) sub refl refl (λ k _. refl) tt tt j fresh (any-strings j) tt in
+    let r = PACKAGE-EXPORTS-RESOLVE dir (G .conditions) sub j fresh in
+    resolved-inside (r .context) dir sub (r .outcome) (k .outcome) w e

@@ -1,10 +1,9 @@
 -- COMPLETE: on a text of the grammar the reader of values gives its value, or, only where a limit is broken, a fault that is not `malformed`.
 use mathlib.Core.Path.{_≡_, refl, sym, _∙_, ap, subst}
-use Prim.Native.Nat.{ℕ, zero, suc, _+_, _-_, _≤_, _<_}
+use Prim.Native.Nat.{ℕ, zero, suc, _≤_}
 use native.Mathlib.Omega.{arith}
-use mathlib.Core.Bool.{Bool, true, false, not, _&&_, _||_, true≢false, false≢true}
+use mathlib.Core.Bool.{Bool, true, false, true≢false, false≢true}
 use mathlib.Core.List.{List, [], _∷_, _++_, append-assoc}
-use Prim.Native.Char.{code}
 use lib.ListN.{length}
 use lib.Dec.{eqb}
 use borrow.Author.Tests.{eqb-true, ne-eqb}
@@ -49,55 +48,12 @@ use Rattle.definition.specs.Json.{
   value,
 }
 use Rattle.definition.specs.JsonLocal.{Delimited, delimited, isDelimiter}
-use Rattle.definition.specs.JsonEndLaws.{Ends, gets, stops, ends-same, ends-under, ends-rest, ends-then, ends-map, skip-ws, skip-structural}
+use Rattle.definition.specs.JsonEndLaws.{Ends, gets, stops, ends-same, ends-then, ends-map, skip-structural}
 use Rattle.definition.specs.JsonStringLaws.{by-test, chars-ends}
 use Rattle.definition.specs.JsonNumberLaws.{integer-ends}
-use Rattle.definition.specs.JsonSoundLaws.{New, no-names, new-name, distinct-new}
+use Rattle.definition.specs.JsonSoundLaws.{New, new-name, distinct-new}
 use Rattle.definition.specs.JsonGrammar as G
-use Rattle.definition.specs.JsonGrammar.{
-  absent,
-  present,
-  no-space,
-  space,
-  horizontal-tab,
-  line-feed,
-  carriage-return,
-  spaced,
-  digit1-9,
-  minus-sign,
-  a-number,
-  between-quotes,
-  is-false,
-  is-null,
-  is-true,
-  is-object,
-  is-array,
-  is-number,
-  is-string,
-  empty-object,
-  full-object,
-  last-member,
-  next-member,
-  named,
-  empty-array,
-  full-array,
-  last-value,
-  next-value,
-  size,
-  memberCount,
-  Distinct,
-  Within,
-  scalar-within,
-  string-within,
-  array-within,
-  object-within,
-  ElementsWithin,
-  no-element-within,
-  element-within,
-  MembersWithin,
-  no-member-within,
-  member-within,
-}
+use Rattle.definition.specs.JsonGrammar.{absent, present, no-space, space, horizontal-tab, line-feed, carriage-return, spaced, digit1-9, minus-sign, a-number, between-quotes, is-false, is-null, is-true, is-object, is-array, is-number, is-string, empty-object, full-object, last-member, next-member, named, empty-array, full-array, last-value, next-value, size, memberCount, Within, string-within, array-within, object-within, ElementsWithin, element-within, MembersWithin, member-within}
 
 pub not-malformed : {f : Fault} → (f ≡ beyond) → f ≡ malformed → ⊥
 not-malformed e p = let z : _≡_ {A = ℕ} 0 1 = cc in omega arith

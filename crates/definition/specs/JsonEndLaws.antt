@@ -1,8 +1,8 @@
 -- How a reader ends on a text of the grammar: with the value, or, only where a limit is broken, with a fault that is not `malformed`.
-use mathlib.Core.Path.{_≡_, refl, sym, _∙_, ap, subst}
+use mathlib.Core.Path.{_≡_, refl, sym, _∙_, ap}
 use Prim.Native.Nat.{ℕ}
 use mathlib.Core.Bool.{Bool, true, false, _||_}
-use mathlib.Core.List.{List, [], _∷_, _++_, append-assoc}
+use mathlib.Core.List.{[], _∷_, _++_, append-assoc}
 use lib.Dec.{eqb}
 use borrow.Author.Tests.{eqb-true}
 use Rattle.definition.specs.Text.{Text, if_then_else_, skipWhile}
@@ -22,10 +22,6 @@ ends-same e (stops f g n w) = stops f (e ∙ g) n w
 pub ends-under : {A : Type 0} {m : Read A} {a : A} {t : Text} {W X : Type 0} → (X → W) → Ends m a t W → Ends m a t X
 ends-under h (gets r f s) = gets r f s
 ends-under h (stops f g n w) = stops f g n (λ x. w (h x))
-
-pub ends-rest : {A : Type 0} {m : Read A} {a : A} {t u : Text} {W : Type 0} → skipSpace t ≡ skipSpace u → Ends m a t W → Ends m a u W
-ends-rest e (gets r f s) = gets r f (s ∙ e)
-ends-rest e (stops f g n w) = stops f g n w
 
 -- one reader after another
 pub ends-then : {A B : Type 0} {m : Read A} (k : A → Text → Read B) {a : A} {t : Text} {b : B} {u : Text} {W Y X : Type 0}
@@ -55,10 +51,6 @@ pub record Cut (A : Text → Type 0) (s r : Text) : Type 0 where
 -- a text cut twice
 pub cut-then : {s q : Text} (x y r : Text) → s ≡ x ++ q → q ≡ y ++ r → s ≡ (x ++ y) ++ r
 cut-then x y r e f = e ∙ ap (λ z. x ++ z) f ∙ sym (append-assoc x y r)
-
-module _ {A B C : Text → Type 0} where
-  pub cut-2 : ((x y : Text) → A x → B y → C (x ++ y)) → {s q r : Text} → Cut A s q → Cut B q r → Cut C s r
-  cut-2 f {r = r} c d = record { text = c .text ++ d .text; cut = cut-then (c .text) (d .text) r (c .cut) (d .cut); holds = f (c .text) (d .text) (c .holds) (d .holds) }
 
 -- the white space in front
 pub spaces-of : (s : Text) → Cut G.ws s (skipSpace s)

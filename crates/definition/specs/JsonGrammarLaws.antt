@@ -2,16 +2,15 @@
 -- beyond the limits it refuses as 40 or 41, and never as malformed. First `document`, then `parse`, which also judges the size and takes a byte order mark for spaces.
 use mathlib.Core.Path.{_≡_, refl, sym, _∙_, ap, subst}
 use mathlib.Core.Logic.{_↔_, _⊎_, inl, inr}
-use Prim.Native.Nat.{ℕ, zero, suc, _+_, _≤_, _<_}
-use native.Mathlib.Omega.{arith}
-use mathlib.Core.Bool.{Bool, true, false, _&&_, true≢false, false≢true}
-use mathlib.Core.List.{List, [], _∷_, _++_, append-assoc, append-nil}
+use Prim.Native.Nat.{_≤_}
+use mathlib.Core.Bool.{true, false}
+use mathlib.Core.List.{[], _∷_, _++_, append-assoc, append-nil}
 use lib.ListN.{length, drop, take-append-drop}
 use lib.Dec.{leb}
-use borrow.Author.Tests.{leb-true, leb-false, le-leb}
-use Rattle.definition.specs.Text.{Text, if_then_else_, skipWhile, startsWith}
+use borrow.Author.Tests.{leb-true, le-leb}
+use Rattle.definition.specs.Text.{Text, skipWhile, startsWith}
 use Rattle.definition.specs.TextLaws.{startsWith-take}
-use Rattle.definition.specs.Json.{Json, Read, got, Fault, malformed, beyond, twice, fault, andThen, isSpace, skipSpace, valueBy, value, atEnd, document, replaceBom, parse, json-computes}
+use Rattle.definition.specs.Json.{Json, Read, got, Fault, malformed, beyond, twice, fault, andThen, isSpace, skipSpace, value, atEnd, document, replaceBom, parse, json-computes}
 use Rattle.definition.specs.Local.{no-got, Both, andThen-both}
 use Rattle.definition.specs.JsonLocal.{Delimited, delimited}
 use Rattle.definition.specs.JsonEndLaws.{Ends, gets, stops, ends-same, ends-then, Cut, cut-then, skip-ws, spaces-of}
@@ -86,17 +85,17 @@ never-malformed {s} {j} k e = go (document-ends k)
     go (stops f g n x) = n (cc)
 
 -- 3. a text of the grammar over a limit or with a name twice is refused as that
+limit-fault : (m : Read Json) (f : Fault) → m ≡ fault f → (f ≡ malformed → ⊥) → (m ≡ fault beyond) ⊎ (m ≡ fault twice)
+limit-fault m malformed e n = absurd (n refl)
+limit-fault m beyond e n = inl e
+limit-fault m twice e n = inr e
+
 pub beyond-limits : {s : Text} {j : Json} → JSON-text s j → (Within 16 j → ⊥) → (document s ≡ fault beyond) ⊎ (document s ≡ fault twice)
 beyond-limits {s} {j} k w = go (document-ends k)
   where
-    which : (f : Fault) → document s ≡ fault f → (f ≡ malformed → ⊥) → (document s ≡ fault beyond) ⊎ (document s ≡ fault twice)
-    which malformed e n = absurd (n refl)
-    which beyond e n = inl e
-    which twice e n = inr e
-
     go : Ends (document s) j [] (Within 16 j) → (document s ≡ fault beyond) ⊎ (document s ≡ fault twice)
     go (gets r e f) = absurd (w (document-sound s j r e .within))
-    go (stops f e n x) = which f e n
+    go (stops f e n x) = limit-fault (document s) f e n
 
 -- 4. a text with a value within the limits has no other value
 pub one-value : {s : Text} {i j : Json} → JSON-text s i → JSON-text s j → Within 16 j → i ≡ j
@@ -168,15 +167,14 @@ parse-exactly s j = (sound, λ h. complete (h .2) (parse-ends (h .0) (h .1)))
     complete w (gets r e f) = let a = parse-sound s j r e in e ∙ ap (got j) (a .nothing-left)
     complete w (stops f e n x) = absurd (x w)
 
--- 6. it refuses as malformed no text of the grammar, of whatever size
-pub parse-never-malformed : {s : Text} {j : Json} → Manifest-text s j → parse s ≡ fault malformed → ⊥
+-- 6. every other text of the grammar, of whatever size, it refuses as over a limit or as repeating a name, and never as malformed
+pub parse-beyond-limits : {s : Text} {j : Json} → Manifest-text s j → ((length s ≤ 16384) × Within 16 j → ⊥) → (parse s ≡ fault beyond) ⊎ (parse s ≡ fault twice)
 unfolding parse
-parse-never-malformed {s} {j} k e =
-    by-test (leb (length s) 16384) (λ h. go (parse-ends (leb-true _ _ h) k)) (λ h. let z : fault beyond ≡ fault malformed = rw h at e in let y : _≡_ {A = ℕ} 0 1 = cc in omega arith)
+parse-beyond-limits {s} {j} k w = by-test (leb (length s) 16384) (λ h. go (leb-true _ _ h) (parse-ends (leb-true _ _ h) k)) (λ h. inl (rw h))
   where
-    go : Ends (parse s) j [] (Within 16 j) → ⊥
-    go (gets r f g) = no-got (sym e ∙ f)
-    go (stops f g n x) = n (cc)
+    go : length s ≤ 16384 → Ends (parse s) j [] (Within 16 j) → (parse s ≡ fault beyond) ⊎ (parse s ≡ fault twice)
+    go h (gets r e f) = absurd (w (h, parse-sound s j r e .within))
+    go h (stops f e n x) = limit-fault (parse s) f e n
 
 -- 7. a manifest with a value within the limits has no other value
 pub parse-one-value : {s : Text} {i j : Json} → length s ≤ 16384 → Manifest-text s i → Manifest-text s j → Within 16 j → i ≡ j

@@ -1,19 +1,18 @@
 -- Numbers: the reader of a number against the grammar, both ways.
 use mathlib.Core.Path.{_≡_, refl, sym, _∙_, ap, subst}
-use Prim.Native.Nat.{ℕ, zero, suc, _+_, _-_, _≤_, _<_}
+use Prim.Native.Nat.{ℕ, _≤_}
 use native.Mathlib.Omega.{arith}
-use mathlib.Core.Bool.{Bool, true, false, not, _&&_, _||_, true≢false, false≢true}
-use mathlib.Core.List.{List, [], _∷_, _++_, append-assoc}
-use Prim.Native.Char.{code}
+use mathlib.Core.Bool.{Bool, true, false, _||_}
+use mathlib.Core.List.{[], _∷_, _++_, append-assoc}
 use lib.Dec.{eqb}
-use borrow.Author.Tests.{eqb-true, eqb-false, eq-eqb, ne-eqb}
+use borrow.Author.Tests.{eqb-true, eqb-false, ne-eqb}
 use Rattle.definition.specs.Text.{Text, if_then_else_, within, skipWhile, isDigit}
-use Rattle.definition.specs.TextSteps.{within-yes, within-low, within-high}
-use Rattle.definition.specs.Json.{Json, scalar, Read, got, malformed, fault, andThen, skipDigits, digits, sign, exponent, fraction, integer}
+use Rattle.definition.specs.TextSteps.{within-yes}
+use Rattle.definition.specs.Json.{Json, scalar, got, andThen, skipDigits, digits, sign, exponent, fraction, integer}
 use Rattle.definition.specs.Local.{no-got, Both, andThen-both}
-use Rattle.definition.specs.JsonLocal.{or-elim, Delimited, delimited, noDigit, skipDigits-none, delimited-noDigit, exponent-delimited, fraction-delimited}
-use Rattle.definition.specs.JsonEndLaws.{cut-then}
-use Rattle.definition.specs.JsonStringLaws.{by-test, within-true}
+use Rattle.definition.specs.JsonLocal.{or-elim, Delimited, noDigit, skipDigits-none, delimited-noDigit, exponent-delimited, fraction-delimited}
+use Rattle.definition.specs.JsonEndLaws.{Cut, cut-then}
+use Rattle.definition.specs.JsonStringLaws.{by-test, if-cases, within-true}
 use Rattle.definition.specs.JsonGrammar as G
 use Rattle.definition.specs.JsonGrammar.{
   absent,
@@ -31,20 +30,15 @@ use Rattle.definition.specs.JsonGrammar.{
 }
 
 -- SOUND
-record Digits (s r : Text) : Type 0 where
-  text : Text
-  cut : s ≡ text ++ r
-  digits : G.DIGITs text
-
-skipDigits-sound : (s : Text) → Digits s (skipDigits s)
+skipDigits-sound : (s : Text) → Cut G.DIGITs s (skipDigits s)
 unfolding skipWhile isDigit
-skipDigits-sound [] = record { text = []; cut = refl; digits = no-digit }
+skipDigits-sound [] = record { text = []; cut = refl; holds = no-digit }
 skipDigits-sound (b ∷ s) = go (within 48 57 b) refl (skipDigits-sound s)
   where
-    go : (u : Bool) → within 48 57 b ≡ u → Digits s (skipDigits s) → Digits (b ∷ s) (if u then skipDigits s else b ∷ s)
+    go : (u : Bool) → within 48 57 b ≡ u → Cut G.DIGITs s (skipDigits s) → Cut G.DIGITs (b ∷ s) (if u then skipDigits s else b ∷ s)
     go true h d =
-        record { text = b ∷ d .text; cut = ap (λ x. b ∷ x) (d .cut); digits = and-digit (digit (within-true _ _ _ h .0) (within-true _ _ _ h .1)) (d .digits) }
-    go false h d = record { text = []; cut = refl; digits = no-digit }
+        record { text = b ∷ d .text; cut = ap (λ x. b ∷ x) (d .cut); holds = and-digit (digit (within-true _ _ _ h .0) (within-true _ _ _ h .1)) (d .holds) }
+    go false h d = record { text = []; cut = refl; holds = no-digit }
 
 -- 1*DIGIT
 record Digits1 (s : Text) (j : Json) (r : Text) : Type 0 where
@@ -60,7 +54,7 @@ unfolding digits isDigit
 digits-sound [] j r e = no-got e
 digits-sound (b ∷ s) j r e = go (within 48 57 b) refl (skipDigits-sound s)
   where
-    go : (u : Bool) → within 48 57 b ≡ u → Digits s (skipDigits s) → Digits1 (b ∷ s) j r
+    go : (u : Bool) → within 48 57 b ≡ u → Cut G.DIGITs s (skipDigits s) → Digits1 (b ∷ s) j r
     go true h d =
         let f : got scalar (skipDigits s) ≡ got j r = rw h at e in
         let x : scalar ≡ j = cc in
@@ -70,25 +64,20 @@ digits-sound (b ∷ s) j r e = go (within 48 57 b) refl (skipDigits-sound s)
           text = d .text;
           cut = ap (λ x. b ∷ x) (d .cut ∙ ap (λ z. d .text ++ z) y);
           one = digit (within-true _ _ _ h .0) (within-true _ _ _ h .1);
-          digits = d .digits;
+          digits = d .holds;
           value = x;
         }
     go false h d = no-got (rw h at e)
 
-record Signed (s r : Text) : Type 0 where
-  text : Text
-  cut : s ≡ text ++ r
-  sign : G.optional G.minus-or-plus text
-
-sign-sound : (s : Text) → Signed s (sign s)
+sign-sound : (s : Text) → Cut (G.optional G.minus-or-plus) s (sign s)
 unfolding sign
-sign-sound [] = record { text = []; cut = refl; sign = absent }
+sign-sound [] = record { text = []; cut = refl; holds = absent }
 sign-sound (b ∷ s) = go (eqb b 43) refl (eqb b 45) refl
   where
-    go : (u : Bool) → eqb b 43 ≡ u → (v : Bool) → eqb b 45 ≡ v → Signed (b ∷ s) (if u || v then s else b ∷ s)
-    go true h v k = record { text = b ∷ []; cut = refl; sign = subst (λ z. G.optional G.minus-or-plus (z ∷ [])) (sym (eqb-true b 43 h)) (present a-plus) }
-    go false h true k = record { text = b ∷ []; cut = refl; sign = subst (λ z. G.optional G.minus-or-plus (z ∷ [])) (sym (eqb-true b 45 k)) (present a-minus) }
-    go false h false k = record { text = []; cut = refl; sign = absent }
+    go : (u : Bool) → eqb b 43 ≡ u → (v : Bool) → eqb b 45 ≡ v → Cut (G.optional G.minus-or-plus) (b ∷ s) (if u || v then s else b ∷ s)
+    go true h v k = record { text = b ∷ []; cut = refl; holds = subst (λ z. G.optional G.minus-or-plus (z ∷ [])) (sym (eqb-true b 43 h)) (present a-plus) }
+    go false h true k = record { text = b ∷ []; cut = refl; holds = subst (λ z. G.optional G.minus-or-plus (z ∷ [])) (sym (eqb-true b 45 k)) (present a-minus) }
+    go false h false k = record { text = []; cut = refl; holds = absent }
 
 -- an optional part
 record Part (A : Text → Type 0) (s : Text) (j : Json) (r : Text) : Type 0 where
@@ -109,12 +98,12 @@ exponent-sound (b ∷ s) j r e = by-test (eqb b 101 || eqb b 69) yes-exp no-exp
         let y : b ∷ s ≡ r = cc in
         record { text = []; cut = y; part = absent; value = x }
 
-    whole : G.e b → Signed s (sign s) → Digits1 (sign s) j r → Part G.exp (b ∷ s) j r
+    whole : G.e b → Cut (G.optional G.minus-or-plus) s (sign s) → Digits1 (sign s) j r → Part G.exp (b ∷ s) j r
     whole k g d =
         record {
           text = b ∷ g .text ++ d .first ∷ d .text;
           cut = ap (λ x. b ∷ x) (cut-then (g .text) (d .first ∷ d .text) r (g .cut) (d .cut));
-          part = present (power k (g .sign) (d .one) (d .digits));
+          part = present (power k (g .holds) (d .one) (d .digits));
           value = d .value;
         }
 
@@ -173,8 +162,8 @@ pub integer-sound : (s : Text) (j : Json) (r : Text) → integer s ≡ got j r �
 unfolding integer isDigit
 integer-sound [] j r e = no-got e
 integer-sound (b ∷ s) j r e =
-    by-test (eqb b 48) (λ h. number (subst (λ z. G.int (z ∷ [])) (sym (eqb-true b 48 h)) G.zero) refl (fraction-sound s j r (rw h at e))) λ h.
-    by-test (within 48 57 b) (λ k. digits-too h k (skipDigits-sound s)) (λ k. no-got (rw (h, k) at e))
+    if-cases _ _ _ e (λ h f. number (subst (λ z. G.int (z ∷ [])) (sym (eqb-true b 48 h)) G.zero) refl (fraction-sound s j r f)) λ h f.
+    if-cases _ _ _ f (λ k g. digits-too (eqb-false b 48 h) k (skipDigits-sound s) g) (λ k g. no-got g)
   where
     number : {x q : Text} → G.int (b ∷ x) → s ≡ x ++ q → Parts q j r → Numbered (b ∷ s) j r
     number {x} i c p =
@@ -189,11 +178,9 @@ integer-sound (b ∷ s) j r e =
           value = p .value;
         }
 
-    digits-too : eqb b 48 ≡ false → within 48 57 b ≡ true → Digits s (skipDigits s) → Numbered (b ∷ s) j r
-    digits-too h k d =
-        let n : b ≡ 48 → ⊥ = eqb-false _ _ h in
-        let w : (48 ≤ b) × (b ≤ 57) = within-true _ _ _ k in
-        number (digit1-9 (omega arith) (w .1) (d .digits)) (d .cut) (fraction-sound (skipDigits s) j r (rw (h, k) at e))
+    digits-too : (b ≡ 48 → ⊥) → within 48 57 b ≡ true → Cut G.DIGITs s (skipDigits s) → fraction (skipDigits s) ≡ got j r → Numbered (b ∷ s) j r
+    digits-too n k d f =
+        let w : (48 ≤ b) × (b ≤ 57) = within-true _ _ _ k in number (digit1-9 (omega arith) (w .1) (d .holds)) (d .cut) (fraction-sound (skipDigits s) j r f)
 
 -- COMPLETE
 -- digits in front of what is no digit

@@ -1,56 +1,18 @@
 -- SOUND: what the reader of values accepts is in the grammar and within the limits, with the value that it gives.
 use mathlib.Core.Path.{_≡_, refl, sym, _∙_, ap, subst}
-use Prim.Native.Nat.{ℕ, zero, suc, _+_, _-_, _≤_, _<_}
+use Prim.Native.Nat.{ℕ, zero, suc, _≤_}
 use native.Mathlib.Omega.{arith}
-use mathlib.Core.Bool.{Bool, true, false, not, _&&_, _||_, true≢false, false≢true}
+use mathlib.Core.Bool.{Bool, true, false, _||_, true≢false}
 use mathlib.Core.List.{List, [], _∷_, _++_, append-assoc}
-use Prim.Native.Char.{code}
 use lib.ListN.{length}
 use lib.Dec.{eqb}
 use borrow.Author.Tests.{eqb-true}
 use Rattle.definition.specs.Text.{Text, text, if_then_else_, skipWhile, equal, isOneOf}
 use Rattle.definition.specs.TextLaws.{equal-true, equal-refl}
-use Rattle.definition.specs.Json.{
-  Json,
-  scalar,
-  str,
-  arr,
-  obj,
-  Elements,
-  noElement,
-  element,
-  Members,
-  noMember,
-  member,
-  Read,
-  got,
-  Fault,
-  malformed,
-  beyond,
-  twice,
-  fault,
-  andThen,
-  isSpace,
-  skipSpace,
-  word,
-  integer,
-  between,
-  string,
-  quoted,
-  startsValue,
-  follow,
-  elements,
-  memberName,
-  colon,
-  members,
-  array,
-  object,
-  valueBy,
-  value,
-}
+use Rattle.definition.specs.Json.{Json, scalar, str, arr, obj, Elements, noElement, element, Members, noMember, member, Read, got, malformed, beyond, twice, fault, andThen, isSpace, skipSpace, word, string, quoted, startsValue, follow, elements, memberName, colon, members, array, object, valueBy, value}
 use Rattle.definition.specs.Local.{no-got, Both, andThen-both}
 use Rattle.definition.specs.JsonLocal.{or-elim}
-use Rattle.definition.specs.JsonEndLaws.{Cut, cut-then, spaces-of, opens, closes}
+use Rattle.definition.specs.JsonEndLaws.{Cut, cut-then, opens, closes}
 use Rattle.definition.specs.JsonStringLaws.{by-test, Quoted, chars-sound}
 use Rattle.definition.specs.JsonNumberLaws.{Numbered, integer-sound}
 use Rattle.definition.specs.JsonGrammar as G

@@ -2,48 +2,16 @@
 use mathlib.Core.Path.{_≡_, refl, sym, _∙_, ap, subst}
 use Prim.Native.Nat.{ℕ, zero, suc, _+_, _-_, _*_, _/_, _%_, _≤_, _<_}
 use native.Mathlib.Omega.{arith}
-use mathlib.Core.Bool.{Bool, true, false, not, _&&_, _||_, true≢false, false≢true}
-use mathlib.Core.List.{List, [], _∷_, _++_, append-assoc}
+use mathlib.Core.Bool.{Bool, true, false, _||_, true≢false}
+use mathlib.Core.List.{[], _∷_, _++_, append-assoc}
 use mathlib.Core.Option.{Option, none, some}
-use Prim.Native.Char.{code}
 use lib.ListN.{length, length-append}
 use lib.Dec.{eqb, leb, ltb}
-use borrow.Author.Tests.{ltb-true, ltb-false, leb-true, leb-false, eqb-true, eqb-false, lt-ltb, le-ltb, le-leb, lt-leb, eq-eqb, ne-eqb}
+use borrow.Author.Tests.{ltb-true, ltb-false, leb-true, leb-false, eqb-true, eqb-false, lt-ltb, le-ltb, eq-eqb, ne-eqb}
 use Rattle.definition.specs.Text.{Text, if_then_else_, within, isDigit, hexDigit, trail, utf8}
 use Rattle.definition.specs.TextLaws.{and-true}
-use Rattle.definition.specs.TextSteps.{within-yes, within-low, within-high}
-use Rattle.definition.specs.Json.{
-  Read,
-  got,
-  Fault,
-  malformed,
-  beyond,
-  fault,
-  andThen,
-  skipSpace,
-  Place,
-  between,
-  sequence,
-  escape,
-  hex,
-  secondEscape,
-  secondU,
-  secondHex,
-  Step,
-  bad,
-  close,
-  gives,
-  plainByte,
-  sequenceByte,
-  escapeByte,
-  unit,
-  pair,
-  hexByte,
-  secondHexByte,
-  step,
-  goOn,
-  string,
-}
+use Rattle.definition.specs.TextSteps.{within-yes, within-high}
+use Rattle.definition.specs.Json.{got, beyond, Place, between, sequence, escape, hex, secondEscape, secondU, secondHex, Step, bad, close, gives, plainByte, sequenceByte, escapeByte, unit, pair, hexByte, secondHexByte, step, goOn, string}
 use Rattle.definition.specs.Local.{no-got, Both, andThen-both}
 use Rattle.definition.specs.JsonEndLaws.{Ends, gets, stops, ends-same, ends-map}
 use Rattle.definition.specs.JsonLocal.{or-elim}
@@ -83,6 +51,11 @@ if-all P false f g = g refl
 pub by-test : {C : Type 0} (c : Bool) → (c ≡ true → C) → (c ≡ false → C) → C
 by-test true f g = f refl
 by-test false f g = g refl
+
+-- what a test gave
+pub if-cases : {A C : Type 0} (c : Bool) (a b : A) {z : A} → (if c then a else b) ≡ z → (c ≡ true → a ≡ z → C) → (c ≡ false → b ≡ z → C) → C
+if-cases true a b e f g = f refl e
+if-cases false a b e f g = g refl e
 
 -- a ≤ b ≤ z, from the test
 pub within-true : (a z b : ℕ) → within a z b ≡ true → (a ≤ b) × (b ≤ z)

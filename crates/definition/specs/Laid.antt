@@ -1,22 +1,22 @@
 -- Every faultless manifest is laid out as `Reordered` says: its root's members, and the members of each map among their values, are
 -- pieces with commas between them and white space beside them. So 01's words leave no file out.
 use mathlib.Core.Path.{_≡_, refl, sym, _∙_, ap, subst}
-use Prim.Native.Nat.{ℕ, zero, suc, _+_, _≤_, _<_}
+use Prim.Native.Nat.{ℕ, zero, suc, _+_}
 use native.Mathlib.Omega.{arith}
 use Prim.Native.Char.{code}
-use mathlib.Core.Bool.{Bool, true, false, not, _&&_, _||_, true≢false, false≢true}
+use mathlib.Core.Bool.{Bool, true, false, _||_, true≢false}
 use mathlib.Core.List.{List, [], _∷_, _++_, append-assoc, append-nil}
 use lib.ListN.{length, drop, take, take-append-drop}
 use lib.Dec.{eqb, leb}
 use borrow.Author.Tests.{eqb-true}
 use Rattle.definition.specs.Text.{text, if_then_else_, isOneOf, isDigit, startsWith, skipWhile}
-use Rattle.definition.specs.TextLaws.{startsWith-take, startsWith-length}
-use Rattle.definition.specs.Json.{Json, scalar, str, arr, obj, Members, noMember, member, Elements, Read, got, Fault, malformed, beyond, twice, fault, andThen, word, digits, sign, exponent, fraction, integer, skipDigits, elements, array, isSpace, skipSpace, quoted, follow, memberName, colon, members, object, valueBy, value, atEnd, document, replaceBom, parse}
+use Rattle.definition.specs.TextLaws.{startsWith-take}
+use Rattle.definition.specs.Json.{Json, scalar, str, arr, obj, Members, noMember, member, Elements, Read, got, Fault, beyond, fault, andThen, word, digits, sign, exponent, fraction, integer, skipDigits, elements, array, isSpace, skipSpace, quoted, follow, colon, members, object, valueBy, value, atEnd, document, replaceBom, parse}
 use Rattle.definition.specs.Exports.{Entry, entries}
-use Rattle.definition.specs.Local.{Taken, Local, Any, no-got, Both, andThen-both}
+use Rattle.definition.specs.Local.{Taken, Any, no-got, Both, andThen-both}
 use Rattle.definition.specs.JsonLocal.{Delimited, delimited, quoted-local}
 use Rattle.definition.specs.Layout.{memberAt-local, members-zero, members-old, members-entry, rest-of}
-use Rattle.definition.specs.Reordered.{ObjectText, empty, filled, memberAt, allSpace, Piece, Layout, entriesOf, lastPiece, nextPiece}
+use Rattle.definition.specs.Reordered.{ObjectText, empty, filled, unchanged, RootReordered, Reordered, memberAt, allSpace, Piece, Layout, entriesOf, lastPiece, nextPiece}
 use Rattle.definition.specs.ReorderedLaws.{some-entry, starts-more, bom}
 
 -- the white space in front of a text
@@ -333,3 +333,35 @@ root-laid a ms h = go (leb (length a) 16384) h
     go : (u : Bool) → (if u then document (replaceBom a) else fault beyond) ≡ got (obj ms) [] → RootLaid a ms
     go true e = by (startsWith bom a) refl e
     go false e = no-got e
+
+-- so a faultless manifest with members is the same as itself by `Reordered`: no file falls outside the statement
+same-members : {fields : List (List ℕ)} {ps : List (Piece 15)} {s : List ℕ} → Layout 15 ps s → RootReordered fields s s
+same-members (lastPiece p x h) = RootReordered.lastMember (unchanged p) x h
+same-members (nextPiece p x y h k l) = RootReordered.nextMember (unchanged p) x y h k (same-members l)
+
+pub same-manifest : (fields : List (List ℕ)) (a : List ℕ) (k : List ℕ) (j : Json) (ms : Members) → parse a ≡ got (obj (member k j ms)) [] → Reordered fields a a
+unfolding entries
+same-manifest fields a k j ms h = go (root-laid a (member k j ms) h)
+  where
+    by : (ps : List (Piece 15)) (body front back : List ℕ) → ObjectText 15 ps body → entriesOf ps ≡ record { key = k; target = j } ∷ entries ms
+        → allSpace (replaceBom front) ≡ true → a ≡ front ++ (body ++ back) → Reordered fields a a
+    by ps body front back (empty x w) e f c = absurd (let z : _≡_ {A = ℕ} 0 1 = cc in omega arith)
+    by ps body front back (filled x w {s = s} l) e f c =
+        let d : a ≡ front ++ code "{" ∷ (x ++ (s ++ back)) = c ∙ ap (λ z. front ++ code "{" ∷ z) (append-assoc x s back) in
+        record {
+          front = front;
+          gap = x;
+          inner = s;
+          other = s;
+          back = back;
+          front-white = f;
+          gap-white = w;
+          root = same-members l;
+          this = d;
+          that = d;
+          faultless = (obj (member k j ms), h);
+          long = refl;
+        }
+
+    go : RootLaid a (member k j ms) → Reordered fields a a
+    go r = by (r .pieces) (r .body) (r .front) (r .back) (r .object-text) (r .same) (r .front-white) (r .cut)

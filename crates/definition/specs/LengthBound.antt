@@ -1,24 +1,22 @@
--- 01's FORMULA: the list of a lookup has at most d + 2dW consults. Assumes nothing.
-use mathlib.Core.Path.{_≡_, refl, sym, _∙_, ap, subst}
+-- 01's FORMULA: the list of a lookup has at most d + 2dW consults.
+use mathlib.Core.Path.{_≡_, refl}
 use mathlib.Core.Bool.{Bool, true, false}
-use mathlib.Core.List.{List, [], _∷_, _++_}
+use mathlib.Core.List.{List, [], _∷_}
 use mathlib.Core.Option.{Option, none, some}
-use Prim.Native.Nat.{ℕ, zero, suc, _+_, _*_, _≤_, zero-le, suc-le-suc}
+use Prim.Native.Nat.{ℕ, _+_, _*_, _≤_}
 use native.Mathlib.Omega.{arith}
 use native.Mathlib.Nat.{mul-le-mul, mul-le-mul-right}
 use lib.ListN.{length}
-use lib.Dec.{leb}
 use Rattle.definition.specs.Text.{Text, text, equal, endsWith}
-use Rattle.definition.specs.Ask.{State, absent, directory, file, Listing, Step, go, stop, Ask, ret, end, ask, read, stateOf, contentsOf, answer, log, _>>=_, _>>_}
+use Rattle.definition.specs.Ask.{directory, Listing, Step, go, stop, stateOf, _>>_}
 use Rattle.definition.specs.Path.{Built, built, tooLong, dirs}
-use Rattle.definition.specs.WalkPathLaws.{length-dirs}
 use Rattle.definition.specs.Specifier.{climbing}
 use Rattle.definition.specs.Settings.{Settings}
-use Rattle.definition.specs.Manifest.{End, Place, Manifest}
+use Rattle.definition.specs.Manifest.{Place, Manifest}
 use Rattle.definition.specs.Json.{Fault, malformed, beyond, twice}
-use Rattle.definition.specs.Walk.{Look, Scope, when, unless, perhaps, forEach, given, isDir, isFile, made, at, bare, notFound, sound, mainPath, under, orAbove, nearest, ifOwn, own, inScopeDir, tryFile, tryExtension, tryIndex, LOAD-AS-FILE, LOAD-INDEX, loadMain, LOAD-AS-DIRECTORY, RESOLVE-ESM-MATCH, byExports, LOAD-PACKAGE-EXPORTS, inScope, LOAD-PACKAGE-SELF, goOn, asDirectory, asFileOrDirectory, inModules, inDirectory, LOAD-NODE-MODULES, lookup}
+use Rattle.definition.specs.Walk.{Look, Scope, made, bare, sound, under, orAbove, nearest, own, inScopeDir, tryFile, tryExtension, tryIndex, LOAD-AS-FILE, LOAD-INDEX, loadMain, LOAD-AS-DIRECTORY, RESOLVE-ESM-MATCH, byExports, LOAD-PACKAGE-EXPORTS, inScope, LOAD-PACKAGE-SELF, goOn, asDirectory, asFileOrDirectory, inModules, inDirectory, LOAD-NODE-MODULES, lookup}
 use Rattle.definition.specs.Called.{W}
-use Rattle.definition.specs.BoundLaws.{AtMost, most-ret, most-end, most-up, most-bind, most-seq, most-ask, most-read, most-when, most-unless, most-perhaps, most-forEach, most-given, most-isDir, most-isFile, dir-of, Onward, onward, onward-bind, onward-up, onward-perhaps, onward-never, most-never, most-or}
+use Rattle.definition.specs.BoundLaws.{AtMost, most-ret, most-end, most-up, most-bind, most-seq, most-read, most-when, most-unless, most-perhaps, most-forEach, most-given, most-isDir, most-isFile, dir-of, Onward, onward, onward-bind, onward-up, onward-perhaps, onward-never, most-never, most-or}
 
 -- 01's letters: e extensions, f main files, m main fields
 abbrev e : Settings → ℕ

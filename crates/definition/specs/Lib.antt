@@ -13,13 +13,25 @@ pub mod Manifest
 pub mod Walk
 pub mod Called
 pub mod Reordered
+-- Examples, by computation: a wrong definition is met here first
+pub mod AnswersMarked
+pub mod AnswersJson
+pub mod AnswersLimits
+pub mod AnswersLookup
+pub mod ReorderedExample
+pub mod AnswersPrinted
+pub mod DemandThreeExample
+-- What is proved of them
+pub mod Theorems
 -- Laws
 pub mod TextLaws
 pub mod TextSteps
+pub mod SpecifierLaws
 pub mod SettingsLaws
 pub mod PathLaws
 pub mod PathSteps
 pub mod ListingSteps
+pub mod ListingNameLaws
 pub mod ListingOrder
 pub mod WalkPathLaws
 pub mod AskLaws
@@ -46,7 +58,6 @@ pub mod ExportsLaws
 pub mod InsidePackage
 pub mod StringBound
 pub mod FitLaws
-pub mod SkipSteps
 pub mod AgreeLaws
 pub mod ViewLaws
 pub mod ManifestViewLaws
@@ -54,14 +65,7 @@ pub mod BoundLaws
 pub mod LengthBound
 pub mod DepthLaws
 pub mod FoundFile
-pub mod WholeCall
-pub mod CallAgain
+pub mod CallEnds
+pub mod CallTwice
 pub mod WalkBounds
 pub mod DemandThree
--- Examples, by computation
-pub mod Examples
-pub mod JsonExamples
-pub mod ExportsTests
-pub mod ReorderedExample
-pub mod PrintedExample
-pub mod DemandThreeExample

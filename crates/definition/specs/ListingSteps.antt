@@ -1,19 +1,18 @@
--- The listing at a place: what a loop over its bytes uses, with the entry's index i and the offset of its path. Assumes nothing.
+-- The listing at a place: what a loop over its bytes uses, with the entry's index i and the offset of its path.
 use mathlib.Core.Path.{_≡_, refl, sym, _∙_, ap}
-use mathlib.Core.Bool.{Bool, true, false, not, _&&_, _||_}
+use mathlib.Core.Bool.{Bool, true, false, _&&_}
 use mathlib.Core.List.{List, [], _∷_}
-use Prim.Native.Nat.{ℕ, zero, suc, _+_, _-_, _*_, _≤_, _<_, min}
+use Prim.Native.Nat.{ℕ, suc, _+_, _-_, _*_, _≤_, _<_, min}
 use native.Mathlib.Omega.{arith}
 use lib.ListN.{length, drop, take, getD, length-drop, length-take, drop-of-length-le}
-use Rattle.definition.specs.TextLaws.{equal-true}
-use lib.Seq.{drop-drop, getD-drop, take-all}
+use Rattle.definition.specs.TextLaws.{and-true, equal-true}
+use lib.Seq.{drop-drop, getD-drop, take-all, take-nil}
 use lib.Dec.{eqb, leb}
-use Rattle.definition.specs.Listing.{Entry, noEntry}
-use Rattle.definition.specs.Text.{Text, text, equal, if_then_else_, smaller, startsWith, contains, split, slash, all, isUtf8, count}
-use borrow.Author.Tests.{leb-true, leb-false}
+use Rattle.definition.specs.Listing.{noEntry, number32, entryCount, directoryMark, contentsLength, lengthsFrom, Row, rowsFrom, rows, entryOf, entryIn, entryAt, rising, firstIsRoot, sizesFit, textLength}
+use Rattle.definition.specs.Text.{Text, text, equal, smaller, all}
+use borrow.Author.Tests.{leb-true, leb-false, le-leb, lt-leb, eqb-true}
+use Rattle.definition.specs.TextSteps.{equal-lengths}
 use mathlib.Core.Logic.{_⊎_, inl, inr}
-use Rattle.definition.specs.Path.{parent}
-use Rattle.definition.specs.Listing.{number32, entryCount, directoryMark, contentsLength, lengthsFrom, Row, rowsFrom, rows, entryOf, entryIn, entryAt, rising, isComponent, isPath, isManifest, rowFits, parentIsDirectory, noDirectoryManifest, isDirectoryEntry, firstIsRoot, sizesFit, textLength, passes30, passes31, passes32}
 
 -- the two lengths of the i-th entry, and the entry whose path begins at the offset
 unfoldable pub pathLengthAt : List ℕ → ℕ → ℕ
@@ -22,21 +21,21 @@ pathLengthAt l i = number32 (drop (8 + 4 * i) l)
 unfoldable pub contentsMarkAt : List ℕ → ℕ → ℕ
 contentsMarkAt l i = number32 (drop (8 + 4 * entryCount l + 4 * i) l)
 
-unfoldable pub rowAt : List ℕ → ℕ → ℕ → Row
+unfoldable rowAt : List ℕ → ℕ → ℕ → Row
 rowAt l i at = record {
   path = take (pathLengthAt l i) (drop at l);
   isDirectory = eqb (contentsMarkAt l i) directoryMark;
   contents = take (contentsLength (contentsMarkAt l i)) (drop (pathLengthAt l i) (drop at l));
 }
 
-unfoldable pub nextAt : List ℕ → ℕ → ℕ → ℕ
+unfoldable nextAt : List ℕ → ℕ → ℕ → ℕ
 nextAt l i at = at + (pathLengthAt l i + contentsLength (contentsMarkAt l i))
 
 -- the entries from the i-th on
 unfoldable pub rowsAt : List ℕ → ℕ → ℕ → List Row
 rowsAt l i at = rowsFrom (entryCount l - i) (drop (8 + 4 * i) l) (drop (8 + 4 * entryCount l + 4 * i) l) (drop at l)
 
-pub rows-start : (l : List ℕ) → rows l ≡ rowsAt l 0 (8 + 8 * entryCount l)
+rows-start : (l : List ℕ) → rows l ≡ rowsAt l 0 (8 + 8 * entryCount l)
 unfolding rows rowsAt
 rows-start l =
     let n = entryCount l in
@@ -48,7 +47,7 @@ pub rows-end : (l : List ℕ) (i at : ℕ) → entryCount l ≤ i → rowsAt l i
 unfolding rowsAt rowsFrom
 rows-end l i at h = let z : entryCount l - i ≡ 0 = omega arith in rw z
 
-pub rows-next : (l : List ℕ) (i at : ℕ) → i < entryCount l → rowsAt l i at ≡ rowAt l i at ∷ rowsAt l (i + 1) (nextAt l i at)
+rows-next : (l : List ℕ) (i at : ℕ) → i < entryCount l → rowsAt l i at ≡ rowAt l i at ∷ rowsAt l (i + 1) (nextAt l i at)
 unfolding rowsAt rowAt nextAt pathLengthAt contentsMarkAt
 rows-next l i at h =
     let n = entryCount l in
@@ -62,12 +61,6 @@ rows-next l i at h =
   where
     one : (k : ℕ) (ps cs t : List ℕ) → rowsFrom (suc k) ps cs t ≡ record { path = take (number32 ps) t; isDirectory = eqb (number32 cs) directoryMark; contents = take (contentsLength (number32 cs)) (drop (number32 ps) t) } ∷ rowsFrom k (drop 4 ps) (drop 4 cs) (drop (number32 ps + contentsLength (number32 cs)) t)
     one k ps cs t = unfold rowsFrom in refl
-
--- one step of a search
-pub search-next : (l : List ℕ) (i at : ℕ) (p : Text) → i < entryCount l
-    → entryIn (rowsAt l i at) p ≡ (if equal (rowAt l i at .path) p then entryOf (rowAt l i at) else entryIn (rowsAt l (i + 1) (nextAt l i at)) p)
-unfolding entryIn
-search-next l i at p h = ap (λ rs. entryIn rs p) (rows-next l i at h)
 
 -- a number of 32 bits by its bytes
 pub number-at : (l : List ℕ) (k : ℕ) → number32 (drop k l) ≡ getD l k 0 + 256 * (getD l (k + 1) 0 + 256 * (getD l (k + 2) 0 + 256 * getD l (k + 3) 0))
@@ -97,13 +90,13 @@ module _ (l : List ℕ) where
       go (inl h) = let k : length l ≤ min a (length l) = omega arith in take-all _ l h ∙ sym (take-all _ l k)
       go (inr h) = let k : a ≡ min a (length l) = omega arith in ap (λ (n : ℕ). take n l) k
 
-  pub drop-clamped : (a b : ℕ) → min a (length l) ≡ min b (length l) → drop a l ≡ drop b l
+  drop-clamped : (a b : ℕ) → min a (length l) ≡ min b (length l) → drop a l ≡ drop b l
   drop-clamped a b e = drop-min a ∙ ap (λ (n : ℕ). drop n l) e ∙ sym (drop-min b)
 
-  pub take-clamped : (a b : ℕ) → min a (length l) ≡ min b (length l) → take a l ≡ take b l
+  take-clamped : (a b : ℕ) → min a (length l) ≡ min b (length l) → take a l ≡ take b l
   take-clamped a b e = take-min a ∙ ap (λ (n : ℕ). take n l) e ∙ sym (take-min b)
 
-pub rows-clamped : (l : List ℕ) (i a b : ℕ) → min a (length l) ≡ min b (length l) → rowsAt l i a ≡ rowsAt l i b
+rows-clamped : (l : List ℕ) (i a b : ℕ) → min a (length l) ≡ min b (length l) → rowsAt l i a ≡ rowsAt l i b
 unfolding rowsAt
 rows-clamped l i a b e = ap (λ t. rowsFrom (entryCount l - i) (drop (8 + 4 * i) l) (drop (8 + 4 * entryCount l + 4 * i) l) t) (drop-clamped l a b e)
 
@@ -156,6 +149,48 @@ lengths-next l i h =
     one : (k : ℕ) (ps cs : List ℕ) → lengthsFrom (suc k) ps cs ≡ number32 ps + contentsLength (number32 cs) + lengthsFrom k (drop 4 ps) (drop 4 cs)
     one k ps cs = unfold lengthsFrom in refl
 
+-- the sizes fit: the tables lie within the bytes, and so does each entry
+pub record Standing (l : List ℕ) (n i at : ℕ) : Type 0 where
+  pub number : n ≡ entryCount l
+  pub some : 1 ≤ n
+  pub few : n ≤ 1024
+  pub tables : 8 + 8 * n ≤ length l
+  pub left : at + lengthsAt l i ≡ length l
+
+pub standing-start : (l : List ℕ) (n : ℕ) → sizesFit l ≡ true → n ≡ entryCount l → Standing l n 0 (8 + 8 * n)
+unfolding sizesFit lengthsAt
+standing-start l n e h =
+    let t = textLength l in
+    let k = lengthsFrom (entryCount l) (drop 8 l) (drop (8 + 4 * entryCount l) l) in
+    let a : (leb (length l) 65536 && leb 1 (entryCount l) && leb (entryCount l) 1024 && eqb (length l) (8 + 8 * entryCount l + t) ≡ true) × (eqb k t ≡ true) = and-true _ _ e in
+    let b : (leb (length l) 65536 && leb 1 (entryCount l) && leb (entryCount l) 1024 ≡ true) × (eqb (length l) (8 + 8 * entryCount l + t) ≡ true) = and-true _ _ (a .0) in
+    let c : (leb (length l) 65536 && leb 1 (entryCount l) ≡ true) × (leb (entryCount l) 1024 ≡ true) = and-true _ _ (b .0) in
+    let o : (leb (length l) 65536 ≡ true) × (leb 1 (entryCount l) ≡ true) = and-true _ _ (c .0) in
+    let f : length l ≡ 8 + 8 * entryCount l + t = eqb-true _ _ (b .1) in
+    let g : k ≡ t = eqb-true _ _ (a .1) in
+    let m : entryCount l ≤ 1024 = leb-true _ _ (c .1) in
+    let k′ : 1 ≤ entryCount l = leb-true _ _ (o .1) in
+    let x : entryCount l - 0 ≡ entryCount l = omega arith in
+    let y : 8 + 4 * entryCount l + 4 * 0 ≡ 8 + 4 * entryCount l = omega arith in
+    record { number = h; some = omega arith; few = omega arith; tables = omega arith; left = rw (x, y) (omega arith) }
+
+pub rows-stand : {l : List ℕ} {n : ℕ} → Standing l n 0 (8 + 8 * n) → rows l ≡ rowsAt l 0 (8 + 8 * n)
+rows-stand {l} {n} s = rows-begin l n (8 + 8 * n) (s .number) (omega (arith, s .tables))
+
+-- the first of the entries from the i-th on
+module _ (l : List ℕ) (n i at e x : ℕ) (s : Standing l n i at) (h : i < n) (p : e ≡ at + pathLengthAt l i) (q : x ≡ e + contentsLength (contentsMarkAt l i)) where
+  next-left : x + lengthsAt l (i + 1) ≡ length l
+  next-left = omega (arith, lengths-next l i (omega (arith, s .number)), s .left)
+
+  pub standing-next : Standing l n (i + 1) x
+  standing-next = record { number = s .number; some = s .some; few = s .few; tables = s .tables; left = next-left }
+
+  pub standing-row : rowsAt l i at ≡ rowBy l at e x (eqb (contentsMarkAt l i) directoryMark) ∷ rowsAt l (i + 1) x
+  standing-row = rows-place l i at e x (omega (arith, s .number)) (omega (arith, s .left)) (omega (arith, next-left)) (omega (arith, next-left))
+
+  pub standing-inside : x ≤ length l
+  standing-inside = omega (arith, next-left)
+
 -- the order, with the path before
 unfoldable pub risingAfter : Text → List Row → Bool
 risingAfter p [] = true
@@ -180,22 +215,16 @@ pub entry-end : {rs : List Row} (p : Text) → rs ≡ [] → entryIn rs p ≡ no
 unfolding entryIn
 entry-end p e = rw e
 
--- the rules, by their parts
-pub path-is : (p : Text) {a b c d : Bool} → startsWith (text "/") p ≡ a → (equal p (text "/") || all isComponent (split slash (drop 1 p))) ≡ b → isUtf8 p ≡ c → not (contains 0 p) ≡ d
-    → isPath p ≡ (a && b && c && d)
-unfolding isPath
-path-is p h i j k = cc
-
 abbrev pub row : Text → Bool → List ℕ → Row
 row p d c = record { path = p; isDirectory = d; contents = c }
-
-pub fits-is : (p : Text) (f : Bool) (s : List ℕ) {a b c d : Bool} → leb (length p) 1024 ≡ a → leb (count slash p) 32 ≡ b → isManifest p ≡ c → equal s [] ≡ d → rowFits (row p f s) ≡ (a && b && (c || d))
-unfolding rowFits
-fits-is p f s h i j k = cc
 
 pub all-next : {A : Type 0} (f : A → Bool) {rs : List A} {r : A} {q : List A} → rs ≡ r ∷ q → {b : Bool} → f r ≡ b → all f rs ≡ (b && all f q)
 unfolding all
 all-next f e h = rw (e, h)
+
+pub all-true : {A : Type 0} (f : A → Bool) {rs : List A} {r : A} {q : List A} → rs ≡ r ∷ q → all f rs ≡ true → (f r ≡ true) × (all f q ≡ true)
+unfolding all
+all-true f {rs} {r} {q} e h = and-true (f r) (all f q) (rw e at h)
 
 pub all-end : {A : Type 0} (f : A → Bool) {rs : List A} → rs ≡ [] → all f rs ≡ true
 unfolding all
@@ -218,28 +247,71 @@ pub after-end : (p : Text) {rs : List Row} → rs ≡ [] → risingAfter p rs �
 unfolding risingAfter
 after-end p e = rw e
 
-pub rising-end : {rs : List Row} → rs ≡ [] → rising rs ≡ true
-unfolding rising
-rising-end e = rw e
-
-pub root-end : {rs : List Row} → rs ≡ [] → firstIsRoot rs ≡ false
-unfolding firstIsRoot
-root-end e = rw e
-
 pub root-first : {rs : List Row} {r : Row} {q : List Row} → rs ≡ r ∷ q → {b : Bool} → equal (r .path) (text "/") ≡ b → firstIsRoot rs ≡ (b && r .isDirectory)
 unfolding firstIsRoot
 root-first e h = rw (e, h)
 
-pub passes-30 : (l : List ℕ) {a b : Bool} → sizesFit l ≡ a → all rowFits (rows l) ≡ b → passes30 l ≡ (a && b)
-unfolding passes30
-passes-30 l h i = cc
-
-pub passes-31 : (l : List ℕ) {a b c d : Bool} → firstIsRoot (rows l) ≡ a → all (λ r. isPath (r .path)) (rows l) ≡ b → rising (rows l) ≡ c → all (parentIsDirectory (rows l)) (rows l) ≡ d → passes31 l ≡ (a && b && c && d)
-unfolding passes31
-passes-31 l h i j k = rw (h, i, j, k)
-
-pub part-length : (l : List ℕ) (a e : ℕ) → a ≤ e → e ≤ length l → length (part l a e) ≡ e - a
+part-length : (l : List ℕ) (a e : ℕ) → a ≤ e → e ≤ length l → length (part l a e) ≡ e - a
 part-length l a e h k = length-take (e - a) (drop a l) ∙ omega (arith, length-drop a l)
 
 pub root-length : (p : Text) → equal p (text "/") ≡ true → length p ≡ 1
 root-length p e = ap length (equal-true p (text "/") e)
+
+-- parts whose ends lie elsewhere than in order within the bytes
+module _ (l : List ℕ) (a e : ℕ) where
+  pub part-beyond : length l < a → part l 0 0 ≡ part l a e
+  part-beyond h = sym (ap (take (e - a)) (drop-of-length-le l {i = a} (omega arith)) ∙ take-nil (e - a))
+
+  pub part-reversed : e < a → part l a a ≡ part l a e
+  part-reversed h = let x : a - a ≡ 0 = omega arith in let y : e - a ≡ 0 = omega arith in rw (x, y)
+
+  pub part-rest : length l < e → take (length l - a) (drop a l) ≡ part l a e
+  part-rest h = take-all (length l - a) (drop a l) (omega (arith, length-drop a l)) ∙ sym (take-all (e - a) (drop a l) (omega (arith, length-drop a l)))
+
+-- two rules at once
+pub all-both : {A : Type 0} (f g h : A → Bool) → ((a : A) → f a ≡ g a && h a) → (l : List A) → all f l ≡ all g l && all h l
+unfolding all
+all-both f g h e [] = refl
+all-both f g h e (a ∷ l) = rw (e a, all-both f g h e l) (swap (g a) (h a) (all g l) (all h l))
+  where
+    swap : (a b c d : Bool) → (a && b) && (c && d) ≡ (a && c) && (b && d)
+    swap true true c d = refl
+    swap true false true d = refl
+    swap true false false d = refl
+    swap false b c d = refl
+
+-- whether the path from a to e is p, its end within the bytes
+module _ (l : List ℕ) (a e : ℕ) (p : Text) where
+  pub match-beyond : length l < e → (leb e (length l) && equal (part l a e) p) ≡ false
+  match-beyond h = rw (lt-leb e (length l) h)
+
+  pub match-inside : e ≤ length l → (leb e (length l) && equal (part l a e) p) ≡ equal (part l a e) p
+  match-inside h = rw (le-leb e (length l) h)
+
+  pub match-long : a ≤ e → (e - a ≡ length p → ⊥) → (leb e (length l) && equal (part l a e) p) ≡ false
+  match-long h k = go (at-or-under e (length l))
+    where
+      go : (e ≤ length l) ⊎ (length l < e) → (leb e (length l) && equal (part l a e) p) ≡ false
+      go (inl i) = match-inside i ∙ equal-lengths _ _ (λ z. k (sym (part-length l a e h i) ∙ z))
+      go (inr i) = match-beyond i
+
+-- a search over lengths that are added up unclamped: as long as the place lies within the bytes, the rest decides
+abbrev pub Seeking : List ℕ → Text → ℕ → ℕ → Type 0
+Seeking l p i at = at ≤ length l → entryIn (rowsAt l i at) p ≡ entryAt l p
+
+pub seek-start : (l : List ℕ) (p : Text) (n : ℕ) → n ≡ entryCount l → Seeking l p 0 (8 + 8 * n)
+unfolding entryAt
+seek-start l p n e h = ap (λ rs. entryIn rs p) (ap (λ (k : ℕ). rowsAt l 0 (8 + 8 * k)) e ∙ sym (rows-start l))
+
+pub seek-end : (l : List ℕ) (p : Text) (i at : ℕ) → Seeking l p i at → at ≤ length l → entryCount l ≤ i → noEntry ≡ entryAt l p
+seek-end l p i at s h k = sym (entry-end p (rows-end l i at k)) ∙ s h
+
+module _ (l : List ℕ) (p : Text) (i at e x : ℕ) (s : Seeking l p i at) (h : i < entryCount l) (k : e ≡ at + pathLengthAt l i) where
+  pub seek-hit : (leb e (length l) && equal (part l at e) p) ≡ true → x ≡ min (e + contentsLength (contentsMarkAt l i)) (length l) → entryOf (rowBy l at e x (eqb (contentsMarkAt l i) directoryMark)) ≡ entryAt l p
+  seek-hit m q =
+      let a : (leb e (length l) ≡ true) × (equal (part l at e) p ≡ true) = and-true _ _ m in
+      let b : e ≤ length l = leb-true _ _ (a .0) in
+      sym (entry-hit p (rows-place l i at e x h (omega arith) (omega arith) q) (a .1)) ∙ s (omega arith)
+
+  pub seek-miss : (leb e (length l) && equal (part l at e) p) ≡ false → x ≡ e + contentsLength (contentsMarkAt l i) → Seeking l p (i + 1) x
+  seek-miss m q u = sym (entry-miss p (rows-place l i at e x h (omega arith) (omega arith) (omega arith)) (sym (match-inside l at e p (omega arith)) ∙ m)) ∙ s (omega arith)

@@ -1,21 +1,21 @@
--- Reordered manifests are seen alike: the one obligation on manifests that demand 3 leaves. Assumes nothing.
-use mathlib.Core.Path.{_≡_, refl, sym, _∙_, ap, fun-ext}
+-- Reordered manifests are seen alike: the one obligation on manifests that demand 3 leaves.
+use mathlib.Core.Path.{_≡_, refl, ap, fun-ext}
 use mathlib.Core.Bool.{Bool, true, false}
 use mathlib.Core.List.{List, [], _∷_}
 use mathlib.Core.Option.{Option, none, some}
-use mathlib.Core.Logic.{_⊎_, inl, inr}
+use mathlib.Core.Logic.{inl, inr}
 use Prim.Native.Nat.{ℕ}
 use native.Mathlib.Omega.{arith}
 use Rattle.definition.specs.Text.{text, if_then_else_, equal, Text}
-use Rattle.definition.specs.Json.{Json, obj, Members, Read, got, Fault, parse}
-use Rattle.definition.specs.Exports.{Entry, entries, get, PACKAGE-EXPORTS-RESOLVE}
+use Rattle.definition.specs.Json.{Json, obj, Members}
+use Rattle.definition.specs.Exports.{Entry, entries, get}
 use Rattle.definition.specs.ExportsOrderLaws.{PACKAGE-EXPORTS-RESOLVE-perm}
-use Rattle.definition.specs.Reordered.{Reordered, SameManifest}
+use Rattle.definition.specs.Reordered.{SameManifest}
 use Rattle.definition.specs.ReorderedLaws
-use Rattle.definition.specs.ReorderedLaws.{SameValue, same, maps, SameEntry, SameEntries, TwoManifests, two-manifests}
-use Rattle.definition.specs.Ask.{Step, go, stop}
+use Rattle.definition.specs.ReorderedLaws.{SameValue, same, maps, SameEntries, two-manifests}
+use Rattle.definition.specs.Ask.{go}
 use Rattle.definition.specs.Settings.{Settings}
-use Rattle.definition.specs.Manifest.{Place, Manifest, field, ifText, orFirst, firstField, fresh, resolvedTo, resolveExports, exportsOf, manifestView, viewOf, view}
+use Rattle.definition.specs.Manifest.{field, ifText, orFirst, firstField, fresh, resolvedTo, resolveExports, exportsOf, manifestView, viewOf, view}
 
 data SameOption : Option Json → Option Json → Type 0 where
   neither : SameOption none none

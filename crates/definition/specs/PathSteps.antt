@@ -1,15 +1,16 @@
--- Parents, names and components at places of a slice. Assumes nothing.
+-- Parents, names and components at places of a slice.
 use mathlib.Core.Path.{_≡_, refl, sym, _∙_, ap}
 use Prim.Native.Nat.{ℕ, zero, suc, _+_, _-_, _≤_, _<_}
-use mathlib.Core.Bool.{Bool, true, false, not, _&&_, _||_, or-true}
+use mathlib.Core.Bool.{Bool, true, false, not, _&&_, _||_, or-true, false≢true}
 use mathlib.Core.List.{List, [], _∷_, _++_}
 use native.Mathlib.Omega.{arith}
 use native.Mathlib.Numerals.{add-one}
-use borrow.Author.Tests.{eqb-true, eq-eqb, ne-eqb}
+use borrow.Author.Tests.{eqb-true, eq-eqb}
 use lib.Dec.{eqb, eqb·zero-suc, eqb·suc-suc}
 use lib.ListN.{length, drop, take, getD, drop-of-length-le, length-drop}
 use lib.Seq.{drop-cons, drop-drop, take-suc, take-all, length-take-le}
-use Rattle.definition.specs.Text.{text, if_then_else_, slash, equal, startsWith, contains, before, beforeLast, toFirst, split, all}
+use Rattle.definition.specs.Text.{text, if_then_else_, slash, startsWith, contains, count, before, beforeLast, toFirst, split, all, Due, due, bad, isUtf8From, isUtf8, dueAfter, within}
+use Rattle.definition.specs.TextLaws.{and-true}
 use Rattle.definition.specs.Path.{orRoot, parent, nameOf}
 
 -- where a byte is missing, the text before it is the whole text
@@ -138,3 +139,74 @@ last-found c (b ∷ s) r e h = go (contains c s) (eqb b c) refl refl (last-found
     go false true e f ih zero k h = record { inside = omega arith; there = simp f; front = simp (e, f); here = eqb-true b c f; none-after = e }
     go false true e f ih (suc r) k h = let z : ⊥ = omega arith in absurd z
     go false false e f ih r k h = let z : ⊥ = omega arith in absurd z
+
+pub last-there : (c : ℕ) (s : List ℕ) (r : ℕ) → r ≡ length (beforeLast c s) → (r ≡ length s → ⊥) → LastAt c s r
+last-there c s r e n = let f : r ≡ length s → ⊥ = n in last-found c s r e (omega (arith, last-inside c s))
+
+-- texts put together
+pub contains-append : (c : ℕ) (a b : List ℕ) → contains c (a ++ b) ≡ contains c a || contains c b
+unfolding contains
+contains-append c [] b = refl
+contains-append c (x ∷ a) b = go (eqb x c) (contains-append c a b)
+  where
+    go : (t : Bool) → contains c (a ++ b) ≡ contains c a || contains c b → t || contains c (a ++ b) ≡ (t || contains c a) || contains c b
+    go true h = refl
+    go false h = h
+
+pub count-append : (c : ℕ) (a b : List ℕ) → count c (a ++ b) ≡ count c a + count c b
+unfolding count
+count-append c [] b = omega arith
+count-append c (x ∷ a) b = omega (arith, count-append c a b)
+
+pub count-none : (c : ℕ) (s : List ℕ) → contains c s ≡ false → count c s ≡ 0
+unfolding contains count
+count-none c [] h = refl
+count-none c (x ∷ s) h = go (eqb x c) refl (count-none c s)
+  where
+    go : (t : Bool) → eqb x c ≡ t → (contains c s ≡ false → count c s ≡ 0) → (if eqb x c then 1 else 0) + count c s ≡ 0
+    go true e ih = absurd (false≢true (sym (rw e at h)))
+    go false e ih = rw e (omega (arith, ih (rw e at h)))
+
+pub all-append : {A : Type 0} (f : A → Bool) (a b : List A) → all f (a ++ b) ≡ all f a && all f b
+unfolding all
+all-append f [] b = refl
+all-append f (x ∷ a) b = go (f x) (all-append f a b)
+  where
+    go : (t : Bool) → all f (a ++ b) ≡ all f a && all f b → t && all f (a ++ b) ≡ (t && all f a) && all f b
+    go true h = h
+    go false h = refl
+
+pub split-none : (c : ℕ) (s : List ℕ) → contains c s ≡ false → split c s ≡ s ∷ []
+unfolding contains split toFirst
+split-none c [] h = refl
+split-none c (x ∷ s) h = go (eqb x c) refl (split-none c s)
+  where
+    go : (t : Bool) → eqb x c ≡ t → (contains c s ≡ false → split c s ≡ s ∷ []) → (if eqb x c then [] ∷ split c s else toFirst x (split c s)) ≡ (x ∷ s) ∷ []
+    go true e ih = absurd (false≢true (sym (rw e at h)))
+    go false e ih = rw e (ap (toFirst x) (ih (rw e at h)))
+
+-- the last c parts off the last part
+pub split-last : (c : ℕ) (a b : List ℕ) → contains c b ≡ false → split c (a ++ c ∷ b) ≡ split c a ++ b ∷ []
+unfolding split toFirst
+split-last c [] b h = rw (eq-eqb c c refl, split-none c b h)
+split-last c (x ∷ a) b h = go (eqb x c) (split-last c a b h)
+  where
+    first-of : (ys : List (List ℕ)) (y : List ℕ) (zs : List (List ℕ)) → ys ≡ y ∷ zs → toFirst x (ys ++ b ∷ []) ≡ toFirst x ys ++ b ∷ []
+    first-of ys y zs e = rw e
+
+    go : (t : Bool) → split c (a ++ c ∷ b) ≡ split c a ++ b ∷ [] → (if t then [] ∷ split c (a ++ c ∷ b) else toFirst x (split c (a ++ c ∷ b))) ≡ (if t then [] ∷ split c a else toFirst x (split c a)) ++ b ∷ []
+    go true e = ap (λ l. [] ∷ l) e
+    go false e = ap (toFirst x) e ∙ first-of (split c a) _ _ (split-first c a)
+
+-- UTF-8 in front of a text leaves the question to the text
+pub utf8-append : (a b : List ℕ) (d : Due) → isUtf8From a d ≡ true → isUtf8From (a ++ b) d ≡ isUtf8 b
+unfolding isUtf8From isUtf8
+utf8-append [] b bad h = absurd (false≢true h)
+utf8-append [] [] (due zero lo hi) h = refl
+utf8-append [] (x ∷ b) (due zero lo hi) h = refl
+utf8-append [] b (due (suc n) lo hi) h = absurd (false≢true h)
+utf8-append (x ∷ a) b bad h = absurd (false≢true h)
+utf8-append (x ∷ a) b (due zero lo hi) h = utf8-append a b (dueAfter x) h
+utf8-append (x ∷ a) b (due (suc n) lo hi) h =
+    let k : (within lo hi x ≡ true) × (isUtf8From a (due n 128 191) ≡ true) = and-true _ _ h in
+    rw (k .0) (utf8-append a b (due n 128 191) (k .1))

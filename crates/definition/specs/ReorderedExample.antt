@@ -1,14 +1,12 @@
 -- One pair of files that demand 3 calls reordered, shown to be one, byte by byte.
-use mathlib.Core.Path.{_≡_, refl}
+use mathlib.Core.Path.{refl}
 use Prim.Native.Nat.{ℕ}
-use mathlib.Core.Bool.{Bool, true, false}
-use mathlib.Core.List.{List, [], _∷_, _++_, List·Memᴰ, List·Memᴰ·head, List·Memᴰ·tail, List·Memᴰ·not-nil, List·Permᴰ, List·Permᴰ·nil, List·Permᴰ·swap}
-use mathlib.Core.Logic.{_⊎_, inl, inr}
-use lib.ListN.{length}
+use mathlib.Core.List.{List, [], _∷_, List·Memᴰ·head, List·Memᴰ·tail, List·Memᴰ·not-nil, List·Permᴰ·swap}
+use mathlib.Core.Logic.{inr}
 use Rattle.definition.specs.Text.{text, text-computes}
-use Rattle.definition.specs.Json.{Json, str, obj, Members, noMember, member, Read, got, parse, json-computes}
-use Rattle.definition.specs.Exports.{Entry, isSubpathKey}
-use Rattle.definition.specs.Reordered.{ObjectText, filled, MapReordered, MemberReordered, unchanged, ownMap, RootReordered, Reordered, SubpathMap, Piece, Layout, memberAt, allSpace, entriesOf, lastPiece, nextPiece}
+use Rattle.definition.specs.Json.{str, json-computes}
+use Rattle.definition.specs.Exports.{isSubpathKey}
+use Rattle.definition.specs.Reordered.{filled, MapReordered, unchanged, ownMap, RootReordered, Reordered, SubpathMap, Piece, memberAt, allSpace, entriesOf, lastPiece, nextPiece}
 
 a : List ℕ
 a = text "{\"name\":\"m\",\"exports\" : {\"./a\":\"./x.js\", \"./b*\":\"./y.js\"}}"

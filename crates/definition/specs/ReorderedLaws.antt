@@ -1,25 +1,25 @@
 -- Reordered manifests are read alike: without a fault, with the same names in the same order, and with values that are the same or
 -- two orders of one map of subpath keys.
 use mathlib.Core.Path.{_≡_, refl, sym, _∙_, ap, subst}
-use Prim.Native.Nat.{ℕ, zero, suc, _+_, _≤_, _<_}
+use Prim.Native.Nat.{ℕ, zero, suc, _+_, _≤_}
 use native.Mathlib.Omega.{arith}
 use Prim.Native.Char.{code}
-use mathlib.Core.Bool.{Bool, true, false, not, _&&_, _||_, true≢false, false≢true}
-use mathlib.Core.List.{List, [], _∷_, _++_, append-assoc, append-nil, List·Permᴰ, List·Permᴰ·nil}
-use lib.ListN.{length, drop}
+use mathlib.Core.Bool.{Bool, true, false, _&&_, false≢true}
+use mathlib.Core.List.{List, [], _∷_, _++_, append-assoc, List·Permᴰ}
+use lib.ListN.{length}
 use lib.Seq.{drop-append-le}
 use borrow.Author.Tests.{eqb-true}
 use lib.Dec.{eqb, leb}
-use Rattle.definition.specs.Text.{text, if_then_else_, isOneOf, startsWith, skipWhile}
+use Rattle.definition.specs.Text.{if_then_else_, isOneOf, startsWith, skipWhile}
 use Rattle.definition.specs.TextLaws.{startsWith-length}
-use Rattle.definition.specs.Json.{Json, obj, Members, noMember, member, Read, got, Fault, malformed, beyond, twice, fault, andThen, isSpace, skipSpace, quoted, follow, memberName, colon, members, object, valueBy, value, atEnd, document, replaceBom, parse}
+use Rattle.definition.specs.Json.{Json, obj, Members, noMember, member, Read, got, beyond, twice, fault, andThen, isSpace, skipSpace, quoted, follow, memberName, colon, members, object, valueBy, value, atEnd, document, replaceBom, parse}
 use Rattle.definition.specs.Exports.{Entry, entries}
 use Rattle.definition.specs.ChosenKeyLaws.{Functional}
-use Rattle.definition.specs.Local.{Taken, Local, Any, no-got, Both, andThen-both}
-use Rattle.definition.specs.JsonLocal.{Delimited, delimited, isDelimiter, quoted-local}
-use Rattle.definition.specs.Layout.{again, piece-reads, piece-quote, quote-first, Distinct, New, membersOf, skip-spaces, spaces-delimited, rest-of, members-entry, members-old, members-zero, follow-close, follow-comma, closes, comma, layout-skip, layout-members, layout-new, Permᴰ·length, distinct-perm, new-of, new-apart, apart-nil, perm-entries, entries-of}
+use Rattle.definition.specs.Local.{no-got, Both, andThen-both}
+use Rattle.definition.specs.JsonLocal.{Delimited, quoted-local}
+use Rattle.definition.specs.Layout.{again, piece-reads, piece-quote, quote-first, Distinct, New, membersOf, skip-spaces, spaces-delimited, rest-of, members-entry, members-old, members-zero, follow-close, follow-comma, closes, comma, layout-members, layout-new, Permᴰ·length, distinct-perm, new-of, new-apart, apart-nil, perm-entries, entries-of}
 use Rattle.definition.specs.SameMapLaws.{distinct-functional}
-use Rattle.definition.specs.Reordered.{ObjectText, empty, filled, MapReordered, MemberReordered, unchanged, ownMap, RootReordered, Reordered, Faultless, SubpathMap, memberAt, allSpace, Piece, Layout, entriesOf, lastPiece, nextPiece}
+use Rattle.definition.specs.Reordered.{ObjectText, empty, filled, MemberReordered, unchanged, ownMap, RootReordered, Reordered, SubpathMap, memberAt, allSpace, Piece, Layout, entriesOf, lastPiece, nextPiece}
 
 -- a value in the two files
 pub data SameValue : Json → Json → Type 0 where

@@ -1,16 +1,13 @@
 -- Distinct keys lead to one entry each.
-use mathlib.Core.Path.{_≡_, refl, sym, _∙_, ap, subst}
-use Prim.Native.Nat.{ℕ, zero, suc}
-use mathlib.Core.Bool.{Bool, true, false, true≢false, false≢true}
-use mathlib.Core.List.{List, [], _∷_, _++_, List·Memᴰ, List·Memᴰ·head, List·Memᴰ·tail, List·Permᴰ}
+use mathlib.Core.Path.{_≡_, sym, _∙_, ap}
+use Prim.Native.Nat.{ℕ}
+use mathlib.Core.Bool.{true, false, true≢false}
+use mathlib.Core.List.{List, List·Memᴰ, List·Memᴰ·head, List·Memᴰ·tail}
 use Rattle.definition.specs.Text.{equal}
 use Rattle.definition.specs.TextLaws.{equal-refl}
-use Rattle.definition.specs.Json.{Json, obj, Members, Read, got, members, value}
-use Rattle.definition.specs.Exports.{Context, Entry, entries, PACKAGE-EXPORTS-RESOLVE}
+use Rattle.definition.specs.Exports.{Entry}
 use Rattle.definition.specs.ChosenKeyLaws.{Functional}
-use Rattle.definition.specs.ExportsOrderLaws.{PACKAGE-EXPORTS-RESOLVE-perm}
-use Rattle.definition.specs.Layout.{NoKey, Distinct, New, new-apart}
-use Rattle.definition.specs.Reordered.{SubpathMap, Piece, Layout}
+use Rattle.definition.specs.Layout.{NoKey, Distinct}
 
 no-key : (k : List ℕ) (e : Entry) (es : List Entry) → NoKey k es → List·Memᴰ e es → k ≡ e .key → ⊥
 no-key k e es n (List·Memᴰ·head {x = x} p) q =

@@ -7,11 +7,11 @@ use native.Mathlib.Nat.{add-zero, add-suc}
 use native.Mathlib.Omega.{arith}
 use lib.Dec.{eqb, leb, ltb}
 use lib.ListN.{length, drop, take, getD, length-take, length-drop, List·getD-eq-default}
-use lib.Seq.{drop-drop, take-nil, take-all, getD-take, getD-drop}
-use borrow.Author.Tests.{eqb-true, eq-eqb, ne-eqb, leb-true, leb-false, ltb-true, ltb-false, le-leb, lt-leb, lt-ltb, le-ltb}
-use Rattle.definition.specs.Text.{Text, slash, contains, isUtf8, all}
+use lib.Seq.{drop-drop, take-nil, getD-take, getD-drop}
+use borrow.Author.Tests.{eqb-true, eq-eqb, ne-eqb, leb-true, ltb-true, ltb-false, le-leb, lt-leb, le-ltb}
+use Rattle.definition.specs.Text.{Text, slash, equal, contains, isUtf8, all}
 use Rattle.definition.specs.TextLaws.{and-true, all-yes, all-at, all-no}
-use Rattle.definition.specs.Settings.{countOf, countBefore, textLengths, pieces, allTexts, textsOf, sum, isSetting, isNonEmpty, passes24}
+use Rattle.definition.specs.Settings.{countOf, countBefore, textLengths, pieces, allTexts, textsOf, sum, isSetting, isNonEmpty, passes24, settings-computes}
 
 -- sums of the first lengths
 pub sum-next : (ns : List ℕ) (j : ℕ) → sum (take (suc j) ns) ≡ sum (take j ns) + getD ns j 0
@@ -90,6 +90,23 @@ textPasses s k = isSetting (getD (allTexts s) k []) && (isExtension s k || isNon
 
 unfoldable pub countsPass : List ℕ → Bool
 countsPass s = leb (countOf s 0) 8 && leb (countOf s 1) 8 && leb (countOf s 2) 4 && leb (countOf s 3) 4 && leb (countOf s 4) 2
+
+-- the empty text, and any other
+pub empty-text : (t : Text) (x : Bool) → length t ≡ 0 → isSetting t && (x || isNonEmpty t) ≡ x
+unfolding settings-computes
+empty-text [] true e = refl
+empty-text [] false e = refl
+empty-text (b ∷ t) x e = let z : ⊥ = omega arith in absurd z
+
+pub other-text : (t : Text) (x : Bool) → (length t ≡ 0 → ⊥) → isSetting t && (x || isNonEmpty t) ≡ isSetting t
+unfolding isNonEmpty equal
+other-text [] x n = absurd (n refl)
+other-text (b ∷ t) x n = go (isSetting (b ∷ t)) x
+  where
+    go : (a x : Bool) → a && (x || true) ≡ a
+    go true true = refl
+    go true false = refl
+    go false x = refl
 
 module _ (s : List ℕ) where
   whole : countsPass s && eqb (length s) (5 + countBefore s 5 + sum (textLengths s)) && all isSetting (allTexts s)

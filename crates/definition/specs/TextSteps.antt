@@ -1,4 +1,4 @@
--- The tests of `Text` at a place of a slice: what a loop over the bytes uses. Assumes nothing.
+-- The tests of `Text` at a place of a slice: what a loop over the bytes uses.
 use mathlib.Core.Path.{_≡_, refl, sym, _∙_, ap}
 use Prim.Native.Nat.{ℕ, zero, suc, _+_, _-_, _≤_, _<_, min}
 use mathlib.Core.Bool.{Bool, true, false, _&&_, _||_, and-false, or-true}

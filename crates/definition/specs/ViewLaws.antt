@@ -1,14 +1,11 @@
--- Agreement where a routine sees of a manifest only a view, and views are the same for related bytes. Assumes nothing.
+-- Agreement where a routine sees of a manifest only a view, and views are the same for related bytes.
 use mathlib.Core.Path.{_≡_, refl, sym, _∙_, ap}
-use mathlib.Core.List.{List, [], _∷_, List·Memᴰ}
-use mathlib.Core.Option.{Option, none, some}
-use Prim.Native.Nat.{ℕ}
-use Rattle.definition.specs.Text.{Text}
+use mathlib.Core.List.{List·Memᴰ}
 use Rattle.definition.specs.Listing.{Entry, noEntry, directoryEntry, fileEntry}
-use Rattle.definition.specs.Ask.{State, Listing, Consult, Step, Ask, stateOf, answer, log, viewed, seen}
+use Rattle.definition.specs.Ask.{Listing, Consult, Ask, stateOf, answer, log, viewed, seen}
 use Rattle.definition.specs.AskLaws.{state-viewed}
 use Rattle.definition.specs.Reordered.{Alike}
-use Rattle.definition.specs.AgreeLaws.{Same, Agree, agree-answer, agree-log}
+use Rattle.definition.specs.AgreeLaws.{Same, agree-answer, agree-log}
 
 module _ {N M : Type 0} where
   module _ (view : N → M) (R : N → N → Type 0) (kept : (a b : N) → R a b → view a ≡ view b) where

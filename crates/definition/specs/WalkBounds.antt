@@ -1,33 +1,34 @@
 -- WHAT THE WALK ASKS AND HOW IT ENDS: no consulted path has over 2,048 bytes; a nearest manifest is sought at directories only; and the texts
 -- of an answer have at most 6,157 bytes together. One induction over the walk for the three. The theorems stand at the end.
 use mathlib.Core.Path.{_≡_, refl, sym, _∙_, ap}
-use mathlib.Core.Bool.{Bool, true, false, not, _&&_, _||_, true≢false}
-use mathlib.Core.List.{List, [], _∷_, _++_, map, List·Memᴰ, List·Memᴰ·head, List·Memᴰ·tail}
+use mathlib.Core.Bool.{Bool, true, false, not, _&&_, _||_}
+use mathlib.Core.List.{List, [], _∷_, _++_, List·Memᴰ, List·Memᴰ·head, List·Memᴰ·tail}
 use mathlib.Core.Option.{Option, none, some}
-use Prim.Native.Nat.{ℕ, zero, suc, _+_, _*_, _≤_, _<_}
+use Prim.Native.Nat.{ℕ, _+_, _*_, _≤_}
 use native.Mathlib.Omega.{arith}
 use native.Mathlib.Nat.{suc-mul}
 use lib.ListN.{length, length-append}
 use lib.Dec.{leb, ltb}
 use borrow.Author.Tests.{leb-true, le-ltb}
-use Rattle.definition.specs.Text.{Text, text, equal, startsWith, endsWith, contains, count, slash, isUtf8, all, if_then_else_}
+use Rattle.definition.specs.Text.{Text, text, equal, contains, count, slash, isUtf8, all, if_then_else_}
 use Rattle.definition.specs.TextLaws.{and-true, equal-true}
-use Rattle.definition.specs.Path.{Built, built, tooLong, limited, normalizeWith, addExtension, addNameAndExtension, manifestOf, parent, dirs}
-use Rattle.definition.specs.Specifier.{packageName, packageSubpath, stripPackageName, climbing, dotSubpath, isBare, isSpecifier}
-use Rattle.definition.specs.Listing.{Entry, noEntry, directoryEntry, fileEntry, Row, rows, entryOf, entryIn, entryAt, rowFits, isManifest, sizesFit, passes30, passes31, passes32, isDirectoryOf, accepted}
+use Rattle.definition.specs.Path.{Built, built, tooLong, limited, normalizeWith, addExtension, addNameAndExtension, manifestOf, dirs}
+use Rattle.definition.specs.Specifier.{climbing, dotSubpath, isBare, isSpecifier}
+use Rattle.definition.specs.Listing.{Entry, noEntry, directoryEntry, fileEntry, Row, rows, entryOf, entryIn, entryAt, rowFits, sizesFit, passes30, passes31, passes32, isDirectoryOf, accepted}
 use Rattle.definition.specs.Settings.{Settings, settingsOf, passes24}
 use Rattle.definition.specs.Json.{Json, Read, got, Fault, malformed, beyond, twice, fault, parse}
-use Rattle.definition.specs.Exports.{Failure, NotFound, Empty, InvalidPackageTarget, PackagePathNotExported, InvalidPackageConfig, InvalidPackageConfigDirectory, JsonError, failureNumber, failureTexts, Context, Outcome, Entry as Member, entries, get, PACKAGE-EXPORTS-RESOLVE}
-use Rattle.definition.specs.Ask.{State, absent, directory, file, Listing, Consult, Step, go, stop, Ask, ret, end, ask, read, stateOf, contentsOf, asked, opened, answer, log, _>>=_, _>>_, seen, viewed}
+use Rattle.definition.specs.Exports.{Failure, NotFound, Empty, InvalidPackageTarget, PackagePathNotExported, InvalidPackageConfig, InvalidPackageConfigDirectory, JsonError, failureNumber, failureTexts, Context, Outcome, PACKAGE-EXPORTS-RESOLVE}
+use Rattle.definition.specs.Ask.{State, directory, Listing, Consult, Step, go, stop, ret, end, ask, read, stateOf, contentsOf, answer, log, _>>=_, _>>_, seen, viewed}
 use Rattle.definition.specs.AskLaws.{then-answer, answer-bind, state-viewed}
 use Rattle.definition.specs.Manifest.{Refusal, manifestBeyond, nameTwice, pathTooLong, refusalNumber, Stop, failed, refused, End, found, stopped, endNumber, endTexts, isAnswer, Place, Manifest, field, orFirst, firstField, fresh, resolvedTo, resolveExports, exportsOf, manifestView, viewOf, view}
-use Rattle.definition.specs.Walk.{Look, Scope, never, when, unless, perhaps, forEach, given, isDir, isDirState, isFile, made, at, bare, notFound, sound, mainPath, under, orAbove, nearest, ifOwn, own, inScopeDir, tryFile, tryExtension, tryIndex, LOAD-AS-FILE, LOAD-INDEX, loadMain, LOAD-AS-DIRECTORY, RESOLVE-ESM-MATCH, byExports, LOAD-PACKAGE-EXPORTS, inScope, LOAD-PACKAGE-SELF, goOn, asDirectory, asFileOrDirectory, inModules, inDirectory, LOAD-NODE-MODULES, lookup, ending}
-use Rattle.definition.specs.Called.{Question, seenBy, endOf, listOf, Rooms, Left, joined, paths, refusalOf, zeros, written, listNumbers, delivered, unlessRefused, check, called}
+use Rattle.definition.specs.Walk.{Look, Scope, never, when, unless, perhaps, forEach, given, isDir, isFile, made, at, bare, notFound, sound, mainPath, under, orAbove, nearest, ifOwn, own, inScopeDir, tryFile, tryExtension, tryIndex, LOAD-AS-FILE, LOAD-INDEX, loadMain, LOAD-AS-DIRECTORY, RESOLVE-ESM-MATCH, byExports, LOAD-PACKAGE-EXPORTS, inScope, LOAD-PACKAGE-SELF, goOn, asDirectory, asFileOrDirectory, inModules, inDirectory, LOAD-NODE-MODULES, lookup, ending}
+use Rattle.definition.specs.Called.{Question, seenBy, endOf, listOf, Rooms, joined, paths, refusalOf, zeros, written, listNumbers, delivered, unlessRefused, check, called}
 use Rattle.definition.specs.BoundLaws.{dir-of}
 use Rattle.definition.specs.DepthLaws.{folder-of, folder-at}
-use Rattle.definition.specs.ExportsLaws.{Strings, StringsOf, Kept, get-has, OptionHas}
+use Rattle.definition.specs.ExportsLaws.{Strings, Kept, get-has, OptionHas}
 use Rattle.definition.specs.StringBound.{Small, small-strings}
-use Rattle.definition.specs.FitLaws.{Fit, BuiltFits, limited-fits, normalizeWith-fits, addExtension-fits, addNameAndExtension-fits, FailureFits, OutcomeFits, ContextFits, exports-fit, parent-short, AllAtMost, dirs-short, manifest-short, subpath-short, strip-short, dot-short, climbing-short}
+use Rattle.definition.specs.PathLaws.{parent-short}
+use Rattle.definition.specs.FitLaws.{Fit, BuiltFits, limited-fits, normalizeWith-fits, addExtension-fits, addNameAndExtension-fits, FailureFits, OutcomeFits, ContextFits, exports-fit, AllAtMost, dirs-short, manifest-short, subpath-short, strip-short, dot-short, climbing-short}
 use Rattle.definition.specs.DemandThree.{shortest-list}
 
 abbrev Sees : Type 0

@@ -13,7 +13,7 @@ use borrow.Author.Tests.{eqb-true, eqb-false, leb-true, leb-false, le-leb, lt-le
 use Rattle.definition.specs.Text.{text, if_then_else_, star, equal, startsWith, endsWith, contains, before, after}
 use Rattle.definition.specs.TextLaws.{and-true, startsWith-length, before-after}
 use Rattle.definition.specs.PathSteps.{not-contains}
-use Rattle.definition.specs.Exports.{baseLength, greaterFirst, patternKeyCompare, isSubpathKey, starMatch, patternMatch}
+use Rattle.definition.specs.Exports.{baseLength, greaterFirst, PATTERN-KEY-COMPARE, isSubpathKey, starMatch, patternMatch}
 use Rattle.exports.specs.declared.Rank.{Rank}
 use Rattle.exports.specs.Keys.{rankOf}
 
@@ -70,8 +70,8 @@ module _ (m n : ℕ) where
       go Ordering·gt e = absurd (omega (arith, leb-false m n (ap isLe e)))
 
 -- the empty key follows the rule of the others
-byRank : (k l : List ℕ) → patternKeyCompare k l ≡ greaterFirst (compare (baseLength k) (baseLength l)) (if not (contains star k) then Ordering·gt else if not (contains star l) then Ordering·lt else greaterFirst (compare (length k) (length l)) Ordering·eq)
-unfolding patternKeyCompare greaterFirst contains baseLength
+byRank : (k l : List ℕ) → PATTERN-KEY-COMPARE k l ≡ greaterFirst (compare (baseLength k) (baseLength l)) (if not (contains star k) then Ordering·gt else if not (contains star l) then Ordering·lt else greaterFirst (compare (length k) (length l)) Ordering·eq)
+unfolding PATTERN-KEY-COMPARE greaterFirst contains baseLength
 byRank [] l = go (baseLength l)
   where
     go : (n : ℕ) → Ordering·gt ≡ greaterFirst (compare 0 n) Ordering·gt
@@ -89,11 +89,11 @@ module _ (a b : Rank) (k l : List ℕ) (e : a ≡ rankOf k) (f : b ≡ rankOf l)
   star-is : (contains star k ≡ a .starred) × (contains star l ≡ b .starred)
   star-is = (sym (ap (λ r. r .starred) e), sym (ap (λ r. r .starred) f))
 
-  pub longer-base : b .base < a .base → Ordering·lt ≡ patternKeyCompare k l
+  pub longer-base : b .base < a .base → Ordering·lt ≡ PATTERN-KEY-COMPARE k l
   unfolding greaterFirst
   longer-base h = let p = base-is in sym (byRank k l ∙ rw (compare-greater (baseLength k) (baseLength l) (omega arith)))
 
-  pub shorter-base : a .base < b .base → Ordering·gt ≡ patternKeyCompare k l
+  pub shorter-base : a .base < b .base → Ordering·gt ≡ PATTERN-KEY-COMPARE k l
   unfolding greaterFirst
   shorter-base h = let p = base-is in sym (byRank k l ∙ rw (compare-less (baseLength k) (baseLength l) (omega arith)))
 
@@ -101,28 +101,28 @@ module _ (a b : Rank) (k l : List ℕ) (e : a ≡ rankOf k) (f : b ≡ rankOf l)
     same : compare (baseLength k) (baseLength l) ≡ Ordering·eq
     same = let p = base-is in compare-same (baseLength k) (baseLength l) (omega arith)
 
-    pub plain-first : a .starred ≡ false → Ordering·gt ≡ patternKeyCompare k l
+    pub plain-first : a .starred ≡ false → Ordering·gt ≡ PATTERN-KEY-COMPARE k l
     unfolding greaterFirst
     plain-first n = sym (byRank k l ∙ rw (same, star-is .0 ∙ n))
 
     module _ (n : a .starred ≡ true) where
-      pub plain-second : b .starred ≡ false → Ordering·lt ≡ patternKeyCompare k l
+      pub plain-second : b .starred ≡ false → Ordering·lt ≡ PATTERN-KEY-COMPARE k l
       unfolding greaterFirst
       plain-second o = sym (byRank k l ∙ rw (same, star-is .0 ∙ n, star-is .1 ∙ o))
 
       module _ (o : b .starred ≡ true) where
-        by-size : patternKeyCompare k l ≡ greaterFirst (compare (length k) (length l)) Ordering·eq
+        by-size : PATTERN-KEY-COMPARE k l ≡ greaterFirst (compare (length k) (length l)) Ordering·eq
         by-size = byRank k l ∙ (unfold greaterFirst in rw (same, star-is .0 ∙ n, star-is .1 ∙ o))
 
-        pub longer-key : b .len < a .len → Ordering·lt ≡ patternKeyCompare k l
+        pub longer-key : b .len < a .len → Ordering·lt ≡ PATTERN-KEY-COMPARE k l
         unfolding greaterFirst
         longer-key i = let p = size-is in sym (by-size ∙ rw (compare-greater (length k) (length l) (omega arith)))
 
-        pub shorter-key : a .len < b .len → Ordering·gt ≡ patternKeyCompare k l
+        pub shorter-key : a .len < b .len → Ordering·gt ≡ PATTERN-KEY-COMPARE k l
         unfolding greaterFirst
         shorter-key i = let p = size-is in sym (by-size ∙ rw (compare-less (length k) (length l) (omega arith)))
 
-        pub same-size : a .len ≤ b .len → b .len ≤ a .len → Ordering·eq ≡ patternKeyCompare k l
+        pub same-size : a .len ≤ b .len → b .len ≤ a .len → Ordering·eq ≡ PATTERN-KEY-COMPARE k l
         unfolding greaterFirst
         same-size i j = let p = size-is in sym (by-size ∙ rw (compare-same (length k) (length l) (omega arith)))
 

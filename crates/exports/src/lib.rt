@@ -1,14 +1,27 @@
 // The exports algorithms of the Node.js documents, as lib.rs has them.
+use package_json::Cursor;
+use path::PathBuf;
+use specifier::Specifier;
 ghost use mathlib.Core.Path.{_≡_};
-ghost use mathlib.Core.List.{List, []};
+ghost use mathlib.Core.List.{List, [], _++_};
 ghost use Prim.Native.Nat.{ℕ, _+_, _-_, _≤_, _<_, suc};
 ghost use lib.ListN.{length, drop, take};
 ghost use mathlib.Core.Bool.{_&&_, _||_};
 ghost use lib.Dec.{leb};
-ghost use Rattle.definition.specs.Text.{equal, endsWith};
-ghost use Rattle.definition.specs.Exports.{patternKeyCompare, isSubpathKey, starMatch, patternMatch, orOld, withQueryFragment};
+ghost use Rattle.definition.specs.Text.{text, star, equal, endsWith, isOneOf, replace};
+ghost use Rattle.definition.specs.Settings.{textsOf, settingsOf};
+ghost use mathlib.Core.Option.{Option, none};
+ghost use Rattle.definition.specs.Json.{Json, str, arr, obj, Members, member, Elements, element, got, quoted};
+ghost use Rattle.definition.specs.JsonAtLaws as values;
+ghost use Rattle.exports.specs.Places.{Stands, MembersAt, ElementsAt, MembersFrom, ElementsFrom, kindOf, Finds};
+ghost use Rattle.definition.specs.Path.{limited};
+ghost use Rattle.path.specs.Meaning.{pathOf};
+ghost use Rattle.definition.specs.Exports.{PATTERN-KEY-COMPARE, isSubpathKey, starMatch, patternMatch, orOld, withQueryFragment, Request, target, targetPath, normalizeStringTarget, stringTarget, isDotKey, anyKey, Entry, entries, get as getOf, better as betterOf, best as bestOf, literal, bestResolve, mainExport, mainResolve, PACKAGE-IMPORTS-EXPORTS-RESOLVE, PACKAGE-EXPORTS-RESOLVE};
+ghost use Rattle.definition.specs.Specifier.{parseSpecifier};
 ghost use Rattle.exports.specs.Keys.{rankOf, orderOf, matchOf};
 ghost use Rattle.exports.specs.Contexts.{contextOf};
+ghost use Rattle.exports.specs.Answers.{answerOf, resolved, Asked, isNothing, isFinal, isSome, isPassed, Resolves};
+ghost use Rattle.exports.specs.Chosen.{aKey, joinedKeys, keysOf, BestOf, formOf, withKey, resolvedOf, fresh, dotRequest, keysOrNot, IsWhole};
 
 pub enum Order {
     Less,
@@ -44,7 +57,7 @@ fn rank_of(key: &[u8]) -> Rank
 
 // The longer base comes first, then a pattern, then the longer key. The empty key comes behind every other.
 fn compare(a: Rank, b: Rank) -> Order
-    ensures { λ r. ⌜ ((k l : List ℕ) → a ≡ rankOf k → b ≡ rankOf l → orderOf r ≡ patternKeyCompare k l) ⌝ }
+    ensures { λ r. ⌜ ((k l : List ℕ) → a ≡ rankOf k → b ≡ rankOf l → orderOf r ≡ PATTERN-KEY-COMPARE k l) ⌝ }
 {
     if a.base > b.base {
         return Order::Less;
@@ -68,7 +81,7 @@ fn compare(a: Rank, b: Rank) -> Order
 }
 
 pub fn pattern_key_compare(a: &[u8], b: &[u8]) -> Order
-    ensures { λ r. ⌜ orderOf r ≡ patternKeyCompare (now (a .entry)) (now (b .entry)) ⌝ }
+    ensures { λ r. ⌜ orderOf r ≡ PATTERN-KEY-COMPARE (now (a .entry)) (now (b .entry)) ⌝ }
 {
     compare(rank_of(a), rank_of(b))
 }
@@ -201,5 +214,895 @@ impl Context {
         let k = self.flen;
         self.flen = put(&mut self.fragment, k, fragment);
         self
+    }
+}
+
+// The target with every star replaced by the pattern match.
+fn substitute(t: &[u8], pattern: &[u8]) -> PathBuf
+    ensures { λ r. ⌜ pathOf r ≡ limited (replace star (now (pattern .entry)) (now (t .entry))) ⌝ }
+{
+    let mut bytes = [0u8; 2048];
+    let mut n: usize = 0;
+    let mut i: usize = 0;
+    while i < t.len() {
+        let b = t[i];
+        if b == b'*' {
+            if pattern.len() > 2048 - n {
+                return PathBuf { bytes, len: 2049 };
+            }
+            text::copy_at(&mut bytes, n, pattern);
+            n += pattern.len();
+            i += 1;
+        } else {
+            if n >= 2048 {
+                return PathBuf { bytes, len: 2049 };
+            }
+            bytes[n] = b;
+            n += 1;
+            i += 1;
+        }
+    }
+    PathBuf { bytes, len: n }
+}
+
+// How the resolution of a target ended. With the path that was found, or the target that a failure speaks of.
+pub enum Outcome {
+    Found,
+    Nothing,
+    Empty,
+    InvalidTarget,
+    // an empty array: the match, or ".", is not exported
+    NotExportedMatch,
+    NotExported,
+    ConfigMixed,
+    ConfigDirectory,
+    OverLong,
+}
+
+pub struct Answer {
+    pub context: Context,
+    pub path: PathBuf,
+    pub outcome: Outcome,
+}
+
+// The key that leads to a target: without a pattern match, with a star, or a folder.
+pub enum Form {
+    Plain,
+    Starred,
+    Folder,
+}
+
+fn without_path(c: Context, outcome: Outcome) -> Answer
+    ensures { λ r. ⌜ (r .context ≡ c) × (r .outcome ≡ outcome) ⌝ }
+{
+    Answer {
+        context: c,
+        path: PathBuf::new(),
+        outcome,
+    }
+}
+
+// A target, with the match put in, below the package's directory.
+fn target_path(url: &[u8], t: &[u8], c: Context) -> Answer
+    ensures { λ r. ⌜ ((q : Request) → q .packageURL ≡ now (url .entry) → answerOf q r ≡ resolved c (targetPath q (target (now (t .entry))))) ⌝ }
+{
+    if t.len() > 2048 {
+        return without_path(c, Outcome::OverLong);
+    }
+    if path::is_invalid_exports_target(t) {
+        return Answer {
+            context: c,
+            path: PathBuf::from(t),
+            outcome: Outcome::InvalidTarget,
+        };
+    }
+    let path = path::normalize_with(url, t);
+    if path.len > 2048 {
+        return without_path(c, Outcome::OverLong);
+    }
+    Answer {
+        context: c,
+        path,
+        outcome: Outcome::Found,
+    }
+}
+
+fn starred_target(url: &[u8], t: &[u8], pattern: &[u8], c: Context) -> Answer
+    ensures { λ r. ⌜ ((q : Request) → q .packageURL ≡ now (url .entry) → answerOf q r ≡ resolved c (targetPath q (target (replace star (now (pattern .entry)) (now (t .entry)))))) ⌝ }
+{
+    let p = substitute(t, pattern);
+    let n = p.len;
+    if n > 2048 {
+        return without_path(c, Outcome::OverLong);
+    }
+    target_path(url, path::first(&p.bytes, n), c)
+}
+
+fn folder_target(url: &[u8], t: &[u8], pattern: &[u8], c: Context) -> Answer
+    ensures { λ r. ⌜ ((q : Request) → q .packageURL ≡ now (url .entry) → answerOf q r ≡ resolved c (targetPath q (target (now (t .entry) ++ now (pattern .entry))))) ⌝ }
+{
+    let p = PathBuf::from(t).append(pattern);
+    let n = p.len;
+    if n > 2048 {
+        return without_path(c, Outcome::OverLong);
+    }
+    target_path(url, path::first(&p.bytes, n), c)
+}
+
+// `normalize_string_target`, and what it gives.
+fn normalized_target(url: &[u8], form: Form, pattern: &[u8], t: &[u8], c: Context) -> Answer
+    ensures { λ r. ⌜ ((q : Request) → Asked q (now (url .entry)) form (now (pattern .entry)) → answerOf q r ≡ resolved c (targetPath q (normalizeStringTarget (q .key) (now (t .entry)) (q .matched)))) ⌝ }
+{
+    match form {
+        Form::Plain => target_path(url, t, c),
+        Form::Starred => starred_target(url, t, pattern, c),
+        Form::Folder => {
+            if text::contains(t, b'*') {
+                return starred_target(url, t, pattern, c);
+            }
+            if text::ends_with(t, b"/") {
+                return folder_target(url, t, pattern, c);
+            }
+            without_path(c, Outcome::ConfigDirectory)
+        }
+    }
+}
+
+// A string as a target, which has at most 1,024 bytes.
+fn text_target(url: &[u8], form: Form, pattern: &[u8], s: &[u8], c: Context) -> Answer
+    ensures { λ r. ⌜ ((q : Request) → Asked q (now (url .entry)) form (now (pattern .entry)) → length (now (s .entry)) ≤ 1024 → answerOf q r ≡ stringTarget q (parseSpecifier (now (s .entry))) (now (s .entry)) (contextOf c)) ⌝ }
+{
+    let parsed = Specifier::parse(s);
+    if parsed.empty {
+        return Answer {
+            context: c,
+            path: PathBuf::from(s),
+            outcome: Outcome::Empty,
+        };
+    }
+    let query = parsed.query;
+    let fragment = parsed.fragment;
+    let context = c.with_query_fragment(
+        part(path::first(s, fragment), query, s.len()),
+        part(s, fragment, s.len()),
+    );
+    let path = parsed.path;
+    let n = path.len;
+    let t = path::first(&path.bytes, n);
+    if text::starts_with(t, b"./") {
+        return normalized_target(url, form, pattern, t, context);
+    }
+    Answer {
+        context,
+        path,
+        outcome: Outcome::InvalidTarget,
+    }
+}
+
+// The kinds of values.
+pub enum Kind {
+    Scalar,
+    String,
+    Array,
+    Object,
+}
+
+fn kind_at(m: &[u8], at: usize) -> Kind
+    ensures { λ r. ⌜ ((d : ℕ) (j : Json) → Stands (now (m .entry)) d at j → r ≡ kindOf j) ⌝ }
+{
+    let kind = package_json::kind_at(m, at);
+    match kind {
+        package_json::Kind::Scalar => Kind::Scalar,
+        package_json::Kind::String => Kind::String,
+        package_json::Kind::Array => Kind::Array,
+        package_json::Kind::Object => Kind::Object,
+        package_json::Kind::Nothing => Kind::Scalar,
+    }
+}
+
+// The first member of the object at a place, and the first element of an array.
+fn members_of(m: &[u8], at: usize) -> Cursor
+    ensures { λ r. ⌜ ((d : ℕ) (ms : Members) → Stands (now (m .entry)) (suc d) at (obj ms) → MembersFrom (now (m .entry)) d 128 ms r) ⌝ }
+{
+    package_json::first_member(m, at)
+}
+
+fn elements_of(m: &[u8], at: usize) -> Cursor
+    ensures { λ r. ⌜ ((d : ℕ) (js : Elements) → Stands (now (m .entry)) (suc d) at (arr js) → ElementsFrom (now (m .entry)) d 128 js r) ⌝ }
+{
+    package_json::first_element(m, at)
+}
+
+fn next_element(m: &[u8], at: usize) -> Cursor
+    ensures { λ r. ⌜ ((d n : ℕ) (j : Json) (js : Elements) → ElementsAt (now (m .entry)) d n at (element j js) → Stands (now (m .entry)) d at j × ElementsFrom (now (m .entry)) d (n - 1) js r) ⌝ }
+{
+    package_json::next_element(m, at)
+}
+
+// A member's value, and the next member.
+struct Member {
+    value: usize,
+    next: Cursor,
+}
+
+fn entry_at(m: &[u8], at: usize) -> Member
+    ensures { λ r. ⌜ ((d n : ℕ) (k : List ℕ) (j : Json) (ms : Members) → MembersAt (now (m .entry)) d n at (member k j ms) → Stands (now (m .entry)) d (r .value) j × MembersFrom (now (m .entry)) d (n - 1) ms (r .next)) ⌝ }
+{
+    let value = package_json::member_value(m, at);
+    match value {
+        Cursor::Nothing => Member {
+            value: at,
+            next: Cursor::Nothing,
+        },
+        Cursor::At(i) => {
+            let next = package_json::next_element(m, i);
+            Member { value: i, next }
+        }
+    }
+}
+
+fn get(m: &[u8], at: usize, name: &[u8]) -> Cursor
+    ensures { λ r. ⌜ ((d : ℕ) (ms : Members) → Stands (now (m .entry)) (suc d) at (obj ms) → Finds (now (m .entry)) d (getOf (now (name .entry)) (entries ms)) r) ⌝ }
+{
+    package_json::get(m, at, name)
+}
+
+fn name_is(m: &[u8], at: usize, key: &[u8]) -> bool
+    ensures { λ r. ⌜ ((t s : List ℕ) → quoted (drop at (now (m .entry))) ≡ got t s → r ≡ equal t (now (key .entry))) ⌝ }
+{
+    package_json::name_is(m, at, key)
+}
+
+// The string at a place as a target.
+fn string_target(
+    m: &[u8],
+    at: usize,
+    url: &[u8],
+    form: Form,
+    pattern: &[u8],
+    c: Context,
+    work: &mut [u8],
+) -> Answer
+    requires { ⌜ 1024 ≤ length (now work) ⌝ }
+    ensures { λ r. ⌜ ((q : Request) (d : ℕ) (s : List ℕ) → Asked q (now (url .entry)) form (now (pattern .entry)) → Stands (now (m .entry)) d at (str s) → answerOf q r ≡ stringTarget q (parseSpecifier s) s (contextOf c)) ⌝ }
+{
+    let t = package_json::read_text(m, at, work);
+    text_target(url, form, pattern, package_json::text_at(m, work, t), c)
+}
+
+// Whether the condition holds that the member at a place names.
+fn condition_holds(m: &[u8], at: usize, settings: &[u8]) -> bool
+    ensures { λ r. ⌜ ((k s : List ℕ) → quoted (drop at (now (m .entry))) ≡ got k s → r ≡ (equal k (text "default") || isOneOf (textsOf (now (settings .entry)) 0) k)) ⌝ }
+{
+    if name_is(m, at, b"default") {
+        return true;
+    }
+    let n = settings::count(settings, settings::Kind::Conditions);
+    let mut i: usize = 0;
+    while i < n {
+        let condition = settings::text(settings, settings::Kind::Conditions, i);
+        if name_is(m, at, condition) {
+            return true;
+        }
+        i += 1;
+    }
+    false
+}
+
+// Nothing was found: the next condition, or the next part of the algorithm, is tried.
+fn is_nothing(o: Outcome) -> bool
+    ensures { λ r. ⌜ r ≡ isNothing o ⌝ }
+{
+    match o {
+        Outcome::Nothing => true,
+        Outcome::Found => false,
+        Outcome::Empty => false,
+        Outcome::InvalidTarget => false,
+        Outcome::NotExportedMatch => false,
+        Outcome::NotExported => false,
+        Outcome::ConfigMixed => false,
+        Outcome::ConfigDirectory => false,
+        Outcome::OverLong => false,
+    }
+}
+
+fn is_some(c: Cursor) -> bool
+    ensures { λ r. ⌜ r ≡ isSome c ⌝ }
+{
+    match c {
+        Cursor::Nothing => false,
+        Cursor::At(_) => true,
+    }
+}
+
+// A path, or a refusal: nothing else is tried.
+fn is_final(o: Outcome) -> bool
+    ensures { λ r. ⌜ r ≡ isFinal o ⌝ }
+{
+    match o {
+        Outcome::Found => true,
+        Outcome::OverLong => true,
+        Outcome::Nothing => false,
+        Outcome::Empty => false,
+        Outcome::InvalidTarget => false,
+        Outcome::NotExportedMatch => false,
+        Outcome::NotExported => false,
+        Outcome::ConfigMixed => false,
+        Outcome::ConfigDirectory => false,
+    }
+}
+
+// An element that gave nothing, or failed and is not the last: the next element is tried. A refusal ends the array.
+fn is_passed(o: Outcome, next: Cursor) -> bool
+    ensures { λ r. ⌜ r ≡ isPassed o next ⌝ }
+{
+    if is_nothing(o) {
+        return true;
+    }
+    if is_final(o) {
+        return false;
+    }
+    is_some(next)
+}
+
+// The target at a place, in which `depth` more brackets may be open.
+fn package_target_resolve(
+    m: &[u8],
+    at: usize,
+    depth: usize,
+    settings: &[u8],
+    url: &[u8],
+    form: Form,
+    pattern: &[u8],
+    c: Context,
+    work: &mut [u8],
+) -> Answer
+    requires { ⌜ 1024 ≤ length (now work) ⌝ }
+    ensures { λ r. ⌜ Resolves (now (m .entry)) at depth (now (settings .entry)) (now (url .entry)) form (now (pattern .entry)) c r ⌝ }
+{
+    let kind = kind_at(m, at);
+    match kind {
+        Kind::Scalar => without_path(c, Outcome::Nothing),
+        Kind::String => string_target(m, at, url, form, pattern, c, work),
+        Kind::Array => {
+            if depth == 0 {
+                return without_path(c, Outcome::Nothing);
+            }
+            let mut cursor = elements_of(m, at);
+            let some = is_some(cursor);
+            if !some {
+                return without_path(c, Outcome::NotExportedMatch);
+            }
+            let mut context = c;
+            let mut left: usize = 128;
+            while left > 0 {
+                match cursor {
+                    Cursor::Nothing => return without_path(context, Outcome::Nothing),
+                    Cursor::At(i) => {
+                        let next = next_element(m, i);
+                        let r = package_target_resolve(
+                            m,
+                            i,
+                            depth - 1,
+                            settings,
+                            url,
+                            form,
+                            pattern,
+                            context,
+                            work,
+                        );
+                        let outcome = r.outcome;
+                        let passed = is_passed(outcome, next);
+                        if !passed {
+                            return r;
+                        }
+                        context = r.context;
+                        cursor = next;
+                        left -= 1;
+                    }
+                }
+            }
+            without_path(context, Outcome::Nothing)
+        }
+        Kind::Object => {
+            if depth == 0 {
+                return without_path(c, Outcome::Nothing);
+            }
+            let mut cursor = members_of(m, at);
+            let mut context = c;
+            let mut left: usize = 128;
+            while left > 0 {
+                match cursor {
+                    Cursor::Nothing => return without_path(context, Outcome::Nothing),
+                    Cursor::At(i) => {
+                        let e = entry_at(m, i);
+                        let value = e.value;
+                        let holds = condition_holds(m, i, settings);
+                        if holds {
+                            let r = package_target_resolve(
+                                m,
+                                value,
+                                depth - 1,
+                                settings,
+                                url,
+                                form,
+                                pattern,
+                                context,
+                                work,
+                            );
+                            let outcome = r.outcome;
+                            let passed = is_nothing(outcome);
+                            if !passed {
+                                return r;
+                            }
+                            context = r.context;
+                            cursor = e.next;
+                            left -= 1;
+                        } else {
+                            cursor = e.next;
+                            left -= 1;
+                        }
+                    }
+                }
+            }
+            without_path(context, Outcome::Nothing)
+        }
+    }
+}
+
+// What the keys of an object begin with.
+struct KeyMarks {
+    // some key begins with "." or "#"
+    dot: bool,
+    // some key does not
+    other: bool,
+    // some key begins with "./" or "#"
+    subpath: bool,
+}
+
+fn is_dot_key(key: &[u8]) -> bool
+    ensures { λ r. ⌜ r ≡ isDotKey (now (key .entry)) ⌝ }
+{
+    if text::starts_with(key, b".") {
+        return true;
+    }
+    text::starts_with(key, b"#")
+}
+
+// The key at a place.
+fn key_at(m: &[u8], at: usize, work: &mut [u8]) -> KeyMarks
+    requires { ⌜ 1024 ≤ length (now work) ⌝ }
+    ensures { λ r. ⌜ ((k s : List ℕ) → quoted (drop at (now (m .entry))) ≡ got k s → r ≡ aKey k) ⌝ }
+{
+    let t = package_json::read_text(m, at, work);
+    let key = package_json::text_at(m, work, t);
+    let dot = is_dot_key(key);
+    let subpath = is_subpath_key(key);
+    KeyMarks {
+        dot,
+        other: !dot,
+        subpath,
+    }
+}
+
+fn either(a: bool, b: bool) -> bool
+    ensures { λ r. ⌜ r ≡ (a || b) ⌝ }
+{
+    if a {
+        return true;
+    }
+    b
+}
+
+fn joined(a: KeyMarks, b: KeyMarks) -> KeyMarks
+    ensures { λ r. ⌜ r ≡ joinedKeys a b ⌝ }
+{
+    KeyMarks {
+        dot: either(a.dot, b.dot),
+        other: either(a.other, b.other),
+        subpath: either(a.subpath, b.subpath),
+    }
+}
+
+// The keys of the object at a place.
+fn keys_of(m: &[u8], at: usize, work: &mut [u8]) -> KeyMarks
+    requires { ⌜ 1024 ≤ length (now work) ⌝ }
+    ensures { λ r. ⌜ ((ms : Members) → Stands (now (m .entry)) 15 at (obj ms) → r ≡ keysOf (entries ms)) ⌝ }
+{
+    let mut cursor = members_of(m, at);
+    let mut keys = KeyMarks {
+        dot: false,
+        other: false,
+        subpath: false,
+    };
+    let mut left: usize = 128;
+    while left > 0 {
+        match cursor {
+            Cursor::Nothing => return keys,
+            Cursor::At(i) => {
+                let e = entry_at(m, i);
+                let key = key_at(m, i, work);
+                keys = joined(keys, key);
+                cursor = e.next;
+                left -= 1;
+            }
+        }
+    }
+    keys
+}
+
+// The pattern key that comes first of those that match: the places of the key and of its value, and the part of the match key that is left over.
+struct Best {
+    found: bool,
+    key: usize,
+    value: usize,
+    rank: Rank,
+    start: usize,
+    len: usize,
+}
+
+// The member whose key and value stand at two places, where it matches and comes before the best so far.
+fn better(m: &[u8], key: usize, value: usize, subpath: &[u8], best: Best, work: &mut [u8]) -> Best
+    requires { ⌜ 1024 ≤ length (now work) ⌝ }
+    ensures { λ r. ⌜ ((o : Option Entry) (k s : List ℕ) (j : Json) → quoted (drop key (now (m .entry))) ≡ got k s → Stands (now (m .entry)) 14 value j → BestOf (now (m .entry)) (now (subpath .entry)) best o → BestOf (now (m .entry)) (now (subpath .entry)) r (betterOf (now (subpath .entry)) o (record { key = k; target = j }))) ⌝ }
+{
+    let t = package_json::read_text(m, key, work);
+    let name = package_json::text_at(m, work, t);
+    let part = pattern_match(subpath, name);
+    match part {
+        Match::Nothing => best,
+        Match::Part { start, len } => {
+            let rank = rank_of(name);
+            let old = best.rank;
+            let order = compare(old, rank);
+            match order {
+                Order::Less => best,
+                Order::Equal => best,
+                Order::Greater => Best {
+                    found: true,
+                    key,
+                    value,
+                    rank,
+                    start,
+                    len,
+                },
+            }
+        }
+    }
+}
+
+fn best_key(m: &[u8], at: usize, subpath: &[u8], work: &mut [u8]) -> Best
+    requires { ⌜ 1024 ≤ length (now work) ⌝ }
+    ensures { λ r. ⌜ ((ms : Members) → Stands (now (m .entry)) 15 at (obj ms) → BestOf (now (m .entry)) (now (subpath .entry)) r (bestOf (now (subpath .entry)) none (entries ms))) ⌝ }
+{
+    let mut cursor = members_of(m, at);
+    let mut best = Best {
+        found: false,
+        key: 0,
+        value: 0,
+        rank: Rank {
+            base: 0,
+            starred: false,
+            len: 0,
+        },
+        start: 0,
+        len: 0,
+    };
+    let mut left: usize = 128;
+    while left > 0 {
+        match cursor {
+            Cursor::Nothing => return best,
+            Cursor::At(i) => {
+                let e = entry_at(m, i);
+                let value = e.value;
+                best = better(m, i, value, subpath, best, work);
+                cursor = e.next;
+                left -= 1;
+            }
+        }
+    }
+    best
+}
+
+// The key that a failure names.
+pub enum Key {
+    Dot,
+    Subpath,
+    // a key of the manifest, by its place
+    At(usize),
+}
+
+// How an exports field was resolved: as an answer, with the key that led to the target and the part of the subpath that matched.
+pub struct Resolved {
+    pub context: Context,
+    pub path: PathBuf,
+    pub outcome: Outcome,
+    pub key: Key,
+    pub matched: Match,
+}
+
+fn with_key(a: Answer, key: Key, matched: Match) -> Resolved
+    ensures { λ r. ⌜ r ≡ withKey a key matched ⌝ }
+{
+    let context = a.context;
+    let path = a.path;
+    let outcome = a.outcome;
+    Resolved {
+        context,
+        path,
+        outcome,
+        key,
+        matched,
+    }
+}
+
+// An end that speaks of the subpath.
+fn unresolved(c: Context, outcome: Outcome) -> Resolved
+    ensures { λ r. ⌜ (r .context ≡ c) × (r .outcome ≡ outcome) × (r .key ≡ Key.Subpath) ⌝ }
+{
+    Resolved {
+        context: c,
+        path: PathBuf::new(),
+        outcome,
+        key: Key::Subpath,
+        matched: Match::Nothing,
+    }
+}
+
+// The value of the literal key: a match key with a star is none.
+fn literal_at(m: &[u8], at: usize, match_key: &[u8]) -> Cursor
+    ensures { λ r. ⌜ ((ms : Members) → Stands (now (m .entry)) 15 at (obj ms) → Finds (now (m .entry)) 14 (literal (now («match_key» .entry)) (entries ms)) r) ⌝ }
+{
+    if text::contains(match_key, b'*') {
+        return Cursor::Nothing;
+    }
+    get(m, at, match_key)
+}
+
+fn form_of(starred: bool) -> Form
+    ensures { λ r. ⌜ r ≡ formOf starred ⌝ }
+{
+    if starred {
+        return Form::Starred;
+    }
+    Form::Folder
+}
+
+// The target of the best pattern key.
+fn pattern_resolve(
+    m: &[u8],
+    at: usize,
+    settings: &[u8],
+    url: &[u8],
+    match_key: &[u8],
+    c: Context,
+    work: &mut [u8],
+) -> Resolved
+    requires { ⌜ 1024 ≤ length (now work) ⌝ }
+    ensures { λ r. ⌜ ((ms : Members) → Stands (now (m .entry)) 15 at (obj ms) → resolvedOf (now (m .entry)) (now (url .entry)) (now («match_key» .entry)) r ≡ bestResolve (now (url .entry)) (textsOf (now (settings .entry)) 0) (now («match_key» .entry)) (bestOf (now («match_key» .entry)) none (entries ms)) (contextOf c)) ⌝ }
+{
+    let best = best_key(m, at, match_key, work);
+    let found = best.found;
+    if !found {
+        return unresolved(c, Outcome::Nothing);
+    }
+    let value = best.value;
+    let key = best.key;
+    let start = best.start;
+    let len = best.len;
+    let rank = best.rank;
+    let form = form_of(rank.starred);
+    let a = package_target_resolve(
+        m,
+        value,
+        14,
+        settings,
+        url,
+        form,
+        part(match_key, start, len),
+        c,
+        work,
+    );
+    with_key(a, Key::At(key), Match::Part { start, len })
+}
+
+fn package_imports_exports_resolve(
+    m: &[u8],
+    at: usize,
+    settings: &[u8],
+    url: &[u8],
+    match_key: &[u8],
+    c: Context,
+    work: &mut [u8],
+) -> Resolved
+    requires { ⌜ 1024 ≤ length (now work) ⌝ }
+    ensures { λ r. ⌜ ((ms : Members) → Stands (now (m .entry)) 15 at (obj ms) → resolvedOf (now (m .entry)) (now (url .entry)) (now («match_key» .entry)) r ≡ PACKAGE-IMPORTS-EXPORTS-RESOLVE (now (url .entry)) (textsOf (now (settings .entry)) 0) (now («match_key» .entry)) (entries ms) (contextOf c)) ⌝ }
+{
+    if text::ends_with(match_key, b"/") {
+        return unresolved(c, Outcome::Nothing);
+    }
+    let literal = literal_at(m, at, match_key);
+    match literal {
+        Cursor::Nothing => pattern_resolve(m, at, settings, url, match_key, c, work),
+        Cursor::At(i) => {
+            let a = package_target_resolve(
+                m,
+                i,
+                14,
+                settings,
+                url,
+                Form::Plain,
+                match_key,
+                c,
+                work,
+            );
+            with_key(a, Key::Subpath, Match::Nothing)
+        }
+    }
+}
+
+// What the keys leave over: the path is not exported.
+fn keys_resolve(
+    m: &[u8],
+    at: usize,
+    settings: &[u8],
+    url: &[u8],
+    subpath: &[u8],
+    c: Context,
+    work: &mut [u8],
+) -> Resolved
+    requires { ⌜ 1024 ≤ length (now work) ⌝ }
+    ensures { λ r. ⌜ ((ms : Members) → Stands (now (m .entry)) 15 at (obj ms) → resolvedOf (now (m .entry)) (now (url .entry)) (now (subpath .entry)) r ≡ keysOrNot (now (url .entry)) (textsOf (now (settings .entry)) 0) (now (subpath .entry)) (obj ms) (contextOf c)) ⌝ }
+{
+    let r = package_imports_exports_resolve(m, at, settings, url, subpath, c, work);
+    let outcome = r.outcome;
+    let nothing = is_nothing(outcome);
+    if !nothing {
+        return r;
+    }
+    let context = r.context;
+    unresolved(context, Outcome::NotExported)
+}
+
+// The main export of an object, in which some key is a subpath's or none.
+fn main_resolve(
+    m: &[u8],
+    at: usize,
+    subpaths: bool,
+    settings: &[u8],
+    url: &[u8],
+    work: &mut [u8],
+) -> Answer
+    requires { ⌜ 1024 ≤ length (now work) ⌝ }
+    ensures { λ r. ⌜ ((ms : Members) → Stands (now (m .entry)) 15 at (obj ms) → subpaths ≡ anyKey isSubpathKey (entries ms) → answerOf (dotRequest (now (url .entry)) (textsOf (now (settings .entry)) 0)) r ≡ mainResolve (now (url .entry)) (textsOf (now (settings .entry)) 0) (mainExport (obj ms)) fresh) ⌝ }
+{
+    let dot = get(m, at, b".");
+    match dot {
+        Cursor::At(i) => package_target_resolve(
+            m,
+            i,
+            14,
+            settings,
+            url,
+            Form::Plain,
+            url,
+            Context::new(),
+            work,
+        ),
+        Cursor::Nothing => {
+            if subpaths {
+                return without_path(Context::new(), Outcome::Nothing);
+            }
+            package_target_resolve(
+                m,
+                at,
+                15,
+                settings,
+                url,
+                Form::Plain,
+                url,
+                Context::new(),
+                work,
+            )
+        }
+    }
+}
+
+fn is_mixed(keys: KeyMarks) -> bool
+    ensures { λ r. ⌜ r ≡ (keys .dot && keys .other) ⌝ }
+{
+    if keys.dot {
+        return keys.other;
+    }
+    false
+}
+
+fn object_resolve(
+    m: &[u8],
+    at: usize,
+    settings: &[u8],
+    url: &[u8],
+    subpath: &[u8],
+    work: &mut [u8],
+) -> Resolved
+    requires { ⌜ 1024 ≤ length (now work) ⌝ }
+    ensures { λ r. ⌜ ((ms : Members) → Stands (now (m .entry)) 15 at (obj ms) → resolvedOf (now (m .entry)) (now (url .entry)) (now (subpath .entry)) r ≡ PACKAGE-EXPORTS-RESOLVE (now (url .entry)) (textsOf (now (settings .entry)) 0) (now (subpath .entry)) (obj ms) fresh) ⌝ }
+{
+    let keys = keys_of(m, at, work);
+    let mixed = is_mixed(keys);
+    if mixed {
+        return unresolved(Context::new(), Outcome::ConfigMixed);
+    }
+    if !text::equal(subpath, b".") {
+        return keys_resolve(m, at, settings, url, subpath, Context::new(), work);
+    }
+    let subpaths = keys.subpath;
+    let a = main_resolve(m, at, subpaths, settings, url, work);
+    let outcome = a.outcome;
+    let nothing = is_nothing(outcome);
+    if !nothing {
+        return with_key(a, Key::Dot, Match::Nothing);
+    }
+    let context = a.context;
+    keys_resolve(m, at, settings, url, subpath, context, work)
+}
+
+// A string or an array: the main export, and no other.
+fn whole_resolve(
+    m: &[u8],
+    at: usize,
+    settings: &[u8],
+    url: &[u8],
+    subpath: &[u8],
+    work: &mut [u8],
+) -> Resolved
+    requires { ⌜ 1024 ≤ length (now work) ⌝ }
+    ensures { λ r. ⌜ ((j : Json) → IsWhole j → Stands (now (m .entry)) 15 at j → resolvedOf (now (m .entry)) (now (url .entry)) (now (subpath .entry)) r ≡ PACKAGE-EXPORTS-RESOLVE (now (url .entry)) (textsOf (now (settings .entry)) 0) (now (subpath .entry)) j fresh) ⌝ }
+{
+    if !text::equal(subpath, b".") {
+        return unresolved(Context::new(), Outcome::NotExported);
+    }
+    let a = package_target_resolve(
+        m,
+        at,
+        15,
+        settings,
+        url,
+        Form::Plain,
+        url,
+        Context::new(),
+        work,
+    );
+    let outcome = a.outcome;
+    let nothing = is_nothing(outcome);
+    if !nothing {
+        return with_key(a, Key::Dot, Match::Nothing);
+    }
+    let context = a.context;
+    unresolved(context, Outcome::NotExported)
+}
+
+// The exports field whose value stands at a place of the manifest m, for the package directory `url` and a subpath. The work buffer ends with any
+// bytes and its old length. Where no value stands there, or the buffer has fewer than 1,024 bytes, the answer is free.
+pub fn package_exports_resolve(
+    m: &[u8],
+    at: usize,
+    settings: &[u8],
+    url: &[u8],
+    subpath: &[u8],
+    work: &mut [u8],
+) -> Resolved
+    ensures { λ r. ⌜ ((j : Json) → 1024 ≤ length (now (work .entry)) → values.Stands 15 (drop at (now (m .entry))) j → resolvedOf (now (m .entry)) (now (url .entry)) (now (subpath .entry)) r ≡ PACKAGE-EXPORTS-RESOLVE (now (url .entry)) (settingsOf (now (settings .entry)) .conditions) (now (subpath .entry)) j fresh) ⌝ }
+    ensures { λ r. ⌜ length (now (work .exit)) ≡ length (now (work .entry)) ⌝ }
+{
+    if work.len() < 1024 {
+        return unresolved(Context::new(), Outcome::NotExported);
+    }
+    let kind = kind_at(m, at);
+    match kind {
+        Kind::Scalar => unresolved(Context::new(), Outcome::NotExported),
+        Kind::String => whole_resolve(m, at, settings, url, subpath, work),
+        Kind::Array => whole_resolve(m, at, settings, url, subpath, work),
+        Kind::Object => object_resolve(m, at, settings, url, subpath, work),
     }
 }

@@ -1,28 +1,24 @@
 -- What the types and answers of `listing` mean.
 use mathlib.Core.Path.{_≡_}
-use mathlib.Core.Bool.{Bool, true, false, not}
-use mathlib.Core.List.{List, [], _∷_}
-use Prim.Native.Nat.{ℕ, _+_, _≤_, _<_}
-use lib.ListN.{length, take}
-use Rattle.definition.specs.Path.{parent}
-use Rattle.definition.specs.ListingOrder.{Going, inOrder, Rise}
-use Rattle.definition.specs.Listing.{Entry, noEntry, directoryEntry, fileEntry}
+use mathlib.Core.Bool.{Bool, true, false}
+use mathlib.Core.List.{List, _∷_}
+use Prim.Native.Nat.{ℕ, _+_, _≤_}
+use lib.ListN.{length}
 use Rattle.definition.specs.Text.{Text, if_then_else_, smaller}
-use Rattle.definition.specs.Listing.{Row, rows, rowFits, isPath, parentIsDirectory, noDirectoryManifest, passes30, passes31, passes32}
+use Rattle.definition.specs.Listing.{Entry, noEntry, directoryEntry, fileEntry, Row, entryAt, noDirectoryManifest, passes30, passes31, passes32}
 use Rattle.definition.specs.ListingSteps.{part, row, rowBy, rowsAt}
+use Rattle.definition.specs.ListingOrder.{Rise, Going, inOrder, sized, shallow}
 use Rattle.listing.specs.declared.Found.{Found}
 use Rattle.listing.specs.declared.Found.the-variants.{Absent, Directory, File}
 use Rattle.listing.specs.declared.Place.{Place}
 use Rattle.listing.specs.declared.Rule.{Rule}
-use Rattle.listing.specs.declared.Rule.the-variants.{Sizes, Paths, Parents, Manifests}
-use Rattle.listing.specs.declared.Way.{Way}
-use Rattle.listing.specs.declared.Way.the-variants.{Next, Wrong, Unsure}
+use Rattle.listing.specs.declared.Rule.the-variants.{Sizes, Depth, Manifests}
 use Rattle.listing.specs.declared.Parting.{Parting}
 use Rattle.listing.specs.declared.Parting.the-variants.{Up, Down}
 use Rattle.listing.specs.declared.Checked.{Checked}
 use Rattle.listing.specs.declared.Checked.the-variants.{Accepted, Refused}
 
--- what a search found: the contents are that part of the bytes
+-- what a search found: the contents are that part of the bytes, and lie within them
 abbrev pub seen : List ℕ → Found → Entry (List ℕ)
 seen l Absent = noEntry
 seen l Directory = directoryEntry
@@ -33,6 +29,14 @@ Inside l Absent = Unit {0}
 Inside l Directory = Unit {0}
 Inside l (File a e) = (a ≤ e) × (e ≤ length l)
 
+pub record Searched (l : List ℕ) (p : Text) (r : Found) : Type 0 where
+  pub entry : seen l r ≡ entryAt l p
+  pub inside : Inside l r
+
+-- what the check says
+unfoldable pub verdict : List ℕ → Checked
+verdict l = if passes30 l then if passes31 l then if passes32 l then Accepted else Refused 32 else Refused 31 else Refused 30
+
 -- the first of the entries from the i-th on, where its path begins at `at`
 pub record Placed (l : List ℕ) (i at : ℕ) (p : Place) : Type 0 where
   pub starts : at ≤ p .end
@@ -41,26 +45,17 @@ pub record Placed (l : List ℕ) (i at : ℕ) (p : Place) : Type 0 where
   pub rows : rowsAt l i at ≡ rowBy l at (p .end) (p .next) (p .directory) ∷ rowsAt l (i + 1) (p .next)
 
 -- the rules that each entry keeps by itself
-abbrev pub ruleOf : Rule → List ℕ → Row → Bool
-ruleOf Sizes l = rowFits
-ruleOf Paths l = λ r. isPath (r .path)
-ruleOf Parents l = parentIsDirectory (rows l)
-ruleOf Manifests l = noDirectoryManifest
-
-unfoldable pub verdict : List ℕ → Checked
-verdict l = if passes30 l then if passes31 l then if passes32 l then Accepted else Refused 32 else Refused 31 else Refused 30
-
--- how long the parent of q is; its own length where that is not known
-pub record Cut (q : Text) (r : ℕ) : Type 0 where
-  pub parent : r < length q → (parent q ≡ take r q) × (0 < r)
-
--- one step of the pass over order and parents, whatever the entries are
-abbrev pub Stepped : Text → Text → Bool → List ℕ → List ℕ → Way → Type 0
-Stepped p q d m m′ Next = (length q ≤ 1024) × (length m′ ≡ length m) × ((rs tail rest : List Row) (s : List ℕ) → rest ≡ row q d s ∷ tail → Going rs p rest m → Going rs q tail m′)
-Stepped p q d m m′ Wrong = (rs tail rest : List Row) (s : List ℕ) → rest ≡ row q d s ∷ tail → Going rs p rest m → inOrder rs ≡ false
-Stepped p q d m m′ Unsure = Unit {0}
+abbrev pub ruleOf : Rule → Row → Bool
+ruleOf Sizes = sized
+ruleOf Depth = shallow
+ruleOf Manifests = noDirectoryManifest
 
 -- q is larger than p and parts from it there, or it is not larger
-abbrev pub Parts : List ℕ → List ℕ → Parting → Type 0
+abbrev pub Parts : Text → Text → Parting → Type 0
 Parts p q (Up j) = Rise p q j
 Parts p q Down = smaller p q ≡ false
+
+-- one step of the pass over paths, order, parents and depth, whatever the entries are
+abbrev pub Stepped : Text → Text → Bool → List ℕ → List ℕ → Bool → Type 0
+Stepped p q d m m′ true = (length m′ ≡ length m) × ((rs tail rest : List Row) (s : List ℕ) → rest ≡ row q d s ∷ tail → Going rs p rest m → Going rs q tail m′)
+Stepped p q d m m′ false = (rs tail rest : List Row) (s : List ℕ) → rest ≡ row q d s ∷ tail → Going rs p rest m → inOrder rs ≡ false

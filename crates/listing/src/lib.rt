@@ -1,15 +1,15 @@
-// The lent listing: its check and its search. Every function that is public takes any bytes.
+// The lent listing: its search and its check. Every public function takes any bytes.
 ghost use mathlib.Core.Path.{_≡_};
-ghost use mathlib.Core.Bool.{Bool, _||_};
-ghost use mathlib.Core.List.{List};
-ghost use Prim.Native.Nat.{ℕ, _+_, _*_, _^_, _≤_, _<_, min};
+ghost use mathlib.Core.Bool.{Bool, true, _&&_};
+ghost use Prim.Native.Nat.{_+_, _-_, _*_, _≤_, _<_, min, max};
 ghost use lib.ListN.{length, drop, getD};
-ghost use Rattle.definition.specs.Text.{text, equal, slash, split, all};
-ghost use Rattle.definition.specs.Path.{parent};
-ghost use Rattle.definition.specs.Listing.{number32, entryCount, contentsLength, rows, entryAt, sizesFit, lengthsFrom, isManifest, isComponent, isPath, rising, firstIsRoot, rowFits, parentIsDirectory, noDirectoryManifest, passes30, passes31, passes32};
-ghost use Rattle.definition.specs.ListingSteps.{lengthsAt, row, rowBy};
-ghost use Rattle.definition.specs.ListingOrder.{inOrder, flag, Remarked};
-ghost use Rattle.listing.specs.Meaning.{Cut, Stepped, Parts, seen, Inside, Placed, ruleOf, verdict};
+ghost use lib.Dec.{leb};
+ghost use Rattle.definition.specs.Text.{equal, all};
+ghost use Rattle.definition.specs.Listing.{number32, entryCount, contentsLength, rows, isDirectoryOf, sizesFit, isManifest, isComponent, firstIsRoot};
+ghost use Rattle.definition.specs.ListingSteps.{part, rowBy, Standing, lengthsAt};
+ghost use Rattle.definition.specs.ListingNameLaws.{isName, Plain};
+ghost use Rattle.definition.specs.ListingOrder.{Shared, Remarked, markOf, inOrder, sized};
+ghost use Rattle.listing.specs.Meaning.{Searched, Placed, Parts, Stepped, ruleOf, verdict};
 
 fn wide(x: u8) -> usize
     ensures { λ r. ⌜ (r ≡ x) × (r < 256) ⌝ }
@@ -23,6 +23,14 @@ fn word(a: u8, b: u8, c: u8, d: u8) -> usize
     wide(a) + 256 * (wide(b) + 256 * (wide(c) + 256 * wide(d)))
 }
 
+// The number at k.
+fn number_at(l: &[u8], k: usize) -> usize
+    requires { ⌜ k + 4 ≤ length (now l) ⌝ }
+    ensures { λ r. ⌜ (r ≡ number32 (drop k (now (l .entry)))) × (r < 4294967296) ⌝ }
+{
+    word(l[k], l[k + 1], l[k + 2], l[k + 3])
+}
+
 fn byte(l: &[u8], i: usize) -> u8
     ensures { λ r. ⌜ r ≡ getD (now (l .entry)) i 0 ⌝ }
 {
@@ -34,20 +42,13 @@ fn number(l: &[u8], k: usize) -> usize
     requires { ⌜ k < 1099511627776 ⌝ }
     ensures { λ r. ⌜ (r ≡ number32 (drop k (now (l .entry)))) × (r < 4294967296) ⌝ }
 {
-    if l.len() < k + 4 {
-        return number_past(l, k);
+    if k + 4 <= l.len() {
+        return number_at(l, k);
     }
-    word(l[k], l[k + 1], l[k + 2], l[k + 3])
-}
-
-fn number_past(l: &[u8], k: usize) -> usize
-    requires { ⌜ k < 1099511627776 ⌝ }
-    ensures { λ r. ⌜ (r ≡ number32 (drop k (now (l .entry)))) × (r < 4294967296) ⌝ }
-{
     word(byte(l, k), byte(l, k + 1), byte(l, k + 2), byte(l, k + 3))
 }
 
-fn contents(c: usize) -> usize
+fn contents_length(c: usize) -> usize
     ensures { λ r. ⌜ (r ≡ contentsLength c) × (r ≤ c) ⌝ }
 {
     if c == 4294967295 { 0 } else { c }
@@ -68,22 +69,6 @@ pub struct Place {
     pub directory: bool,
 }
 
-// The place of the i-th of n entries, whose path begins at `at`.
-fn locate(l: &[u8], n: usize, i: usize, at: usize) -> Place
-    requires { ⌜ (n ≡ entryCount (now l)) × (n < 4294967296) × (i < n) × (at ≤ length (now l)) ⌝ }
-    ensures { λ r. ⌜ Placed (now (l .entry)) i at r ⌝ }
-{
-    let k = number(l, 8 + 4 * i);
-    let c = number(l, 8 + 4 * n + 4 * i);
-    let end = reach(at, k, l.len());
-    let next = reach(end, contents(c), l.len());
-    Place {
-        end: end,
-        next: next,
-        directory: c == 4294967295,
-    }
-}
-
 // What a search finds: a file's contents are l[start..end].
 pub enum Found {
     Absent,
@@ -91,14 +76,31 @@ pub enum Found {
     File { start: usize, end: usize },
 }
 
-pub fn search(l: &[u8], path: &[u8]) -> Found
-    ensures { λ r. ⌜ (seen (now (l .entry)) r ≡ entryAt (now (l .entry)) (now (path .entry))) × Inside (now (l .entry)) r ⌝ }
+// The i-th of n entries, whose path begins at `at`, as far as the bytes go.
+fn clamped(l: &[u8], n: usize, i: usize, at: usize) -> Place
+    requires { ⌜ (n ≡ entryCount (now l)) × (n < 4294967296) × (i < n) × (at ≤ length (now l)) ⌝ }
+    ensures { λ r. ⌜ Placed (now (l .entry)) i at r ⌝ }
 {
-    let n = number(l, 0);
+    let k = number(l, 8 + 4 * i);
+    let c = number(l, 8 + 4 * n + 4 * i);
+    let end = reach(at, k, l.len());
+    let next = reach(end, contents_length(c), l.len());
+    Place {
+        end: end,
+        next: next,
+        directory: c == 4294967295,
+    }
+}
+
+// The search where the lengths run past the end: no listing that passes the check comes here.
+fn search_clamped(l: &[u8], n: usize, path: &[u8]) -> Found
+    requires { ⌜ (n ≡ entryCount (now l)) × (n < 4294967296) ⌝ }
+    ensures { λ r. ⌜ Searched (now (l .entry)) (now (path .entry)) r ⌝ }
+{
     let mut at = reach(0, 8 + 8 * n, l.len());
     let mut i = 0;
     while i < n {
-        let p = locate(l, n, i, at);
+        let p = clamped(l, n, i, at);
         let end = p.end;
         let next = p.next;
         if text::equal(&l[at..end], path) {
@@ -116,127 +118,100 @@ pub fn search(l: &[u8], path: &[u8]) -> Found
     Found::Absent
 }
 
-pub enum Rule {
-    Sizes,
-    Paths,
-    Parents,
-    Manifests,
-}
-
-pub enum Checked {
-    Accepted,
-    Refused(u8),
-}
-
-// The bytes behind the last slash are package.json.
-pub fn is_manifest(p: &[u8]) -> bool
-    ensures { λ r. ⌜ r ≡ isManifest (now (p .entry)) ⌝ }
+// Bytes that both texts begin with, counted four at a time.
+fn shared(p: &[u8], q: &[u8]) -> usize
+    ensures { λ r. ⌜ Shared (now (p .entry)) (now (q .entry)) r ⌝ }
 {
-    let k = text::rfind(p, b'/');
-    if k == p.len() {
-        return text::equal(p, b"package.json");
-    }
-    let from = k + 1;
-    text::equal(&p[from..], b"package.json")
-}
-
-// What stands before the last slash, or "/"; noEntry where there is no slash.
-pub fn parent_of(p: &[u8]) -> &[u8]
-    ensures { λ r. ⌜ now r ≡ parent (now (p .entry)) ⌝ }
-{
-    let k = text::rfind(p, b'/');
-    if k == p.len() {
-        return &p[0..0];
-    }
-    if k == 0 {
-        return &p[0..1];
-    }
-    &p[0..k]
-}
-
-fn is_component(c: &[u8]) -> bool
-    ensures { λ r. ⌜ r ≡ isComponent (now (c .entry)) ⌝ }
-{
-    if text::equal(c, b"") {
-        return false;
-    }
-    if text::equal(c, b".") {
-        return false;
-    }
-    if text::equal(c, b"..") {
-        return false;
-    }
-    true
-}
-
-// All components from `at` on.
-fn components(p: &[u8], at: usize) -> bool
-    requires { ⌜ at ≤ length (now p) ⌝ }
-    ensures { λ r. ⌜ r ≡ all isComponent (split slash (drop at (now (p .entry)))) ⌝ }
-{
-    let mut start = at;
-    loop {
-        let end = text::find(p, b'/', start);
-        if !is_component(&p[start..end]) {
-            return false;
+    let mut i = 0;
+    while i + 4 <= p.len() {
+        if i + 4 > q.len() {
+            return i;
         }
-        if end == p.len() {
-            return true;
+        if number_at(p, i) != number_at(q, i) {
+            return i;
         }
-        start = end + 1;
+        i += 4;
     }
+    i
 }
 
-fn named(p: &[u8]) -> bool
-    requires { ⌜ 0 < length (now p) ⌝ }
-    ensures { λ r. ⌜ r ≡ (equal (now (p .entry)) (text "/") || all isComponent (split slash (drop 1 (now (p .entry))))) ⌝ }
+// Equal texts, compared four bytes at a time: two paths of a listing often differ only at their ends.
+fn same(a: &[u8], b: &[u8]) -> bool
+    ensures { λ r. ⌜ r ≡ equal (now (a .entry)) (now (b .entry)) ⌝ }
 {
-    if text::equal(p, b"/") {
-        return true;
-    }
-    components(p, 1)
+    let k = shared(a, b);
+    text::equal(&a[k..], &b[k..])
 }
 
-pub fn is_path(p: &[u8]) -> bool
-    ensures { λ r. ⌜ r ≡ isPath (now (p .entry)) ⌝ }
+// The lengths are compared before any byte.
+fn matches(l: &[u8], at: usize, end: usize, path: &[u8]) -> bool
+    requires { ⌜ at ≤ end ⌝ }
+    ensures { λ r. ⌜ r ≡ (leb end (length (now (l .entry))) && equal (part (now (l .entry)) at end) (now (path .entry))) ⌝ }
 {
-    if p.len() == 0 {
+    if end - at != path.len() {
         return false;
     }
-    if p[0] != b'/' {
+    if end > l.len() {
         return false;
     }
-    if !named(p) {
-        return false;
-    }
-    if !text::is_utf8(p) {
-        return false;
-    }
-    text::find(p, 0, 0) == p.len()
+    same(&l[at..end], path)
 }
 
-fn fits(path: &[u8], inner: &[u8]) -> bool
-    ensures { λ r. ⌜ ((d : Bool) → r ≡ rowFits (row (now (path .entry)) d (now (inner .entry)))) ⌝ }
+// What the path has in the listing. The lengths are added up unclamped: an entry that matches lies within the bytes, and so do
+// all before it; where none matches, one test at the end shows whether all did.
+pub fn search(l: &[u8], path: &[u8]) -> Found
+    ensures { λ r. ⌜ Searched (now (l .entry)) (now (path .entry)) r ⌝ }
 {
-    if path.len() > 1024 {
-        return false;
+    let n = number(l, 0);
+    if n > 1024 {
+        return search_clamped(l, n, path);
     }
-    if text::count(path, b'/') > 32 {
-        return false;
+    if 8 + 8 * n > l.len() {
+        return search_clamped(l, n, path);
     }
-    if is_manifest(path) {
-        return true;
+    let mut at = 8 + 8 * n;
+    let mut i = 0;
+    while i < n {
+        let end = at + number_at(l, 8 + 4 * i);
+        let c = number_at(l, 8 + 4 * n + 4 * i);
+        if matches(l, at, end, path) {
+            if c == 4294967295 {
+                return Found::Directory;
+            }
+            return Found::File {
+                start: end,
+                end: reach(end, c, l.len()),
+            };
+        }
+        at = end + contents_length(c);
+        i += 1;
     }
-    text::equal(inner, b"")
+    if at > l.len() {
+        return search_clamped(l, n, path);
+    }
+    Found::Absent
 }
 
-fn has_parent(l: &[u8], path: &[u8]) -> bool
-    ensures { λ r. ⌜ ((d : Bool) (s : List ℕ) → r ≡ parentIsDirectory (rows (now (l .entry))) (row (now (path .entry)) d s)) ⌝ }
+// A file's contents, by the places that a search found.
+pub fn contents(l: &[u8], start: usize, end: usize) -> &[u8]
+    ensures { λ r. ⌜ now r ≡ part (now (l .entry)) start end ⌝ }
 {
-    if text::equal(path, b"/") {
-        return true;
+    if start > l.len() {
+        return &l[0..0];
     }
-    let f = search(l, parent_of(path));
+    if end < start {
+        return &l[start..start];
+    }
+    if end > l.len() {
+        return &l[start..];
+    }
+    &l[start..end]
+}
+
+pub fn is_directory(l: &[u8], path: &[u8]) -> bool
+    ensures { λ r. ⌜ r ≡ isDirectoryOf (now (l .entry)) (now (path .entry)) ⌝ }
+{
+    let f = search(l, path);
     match f {
         Found::Absent => false,
         Found::Directory => true,
@@ -244,103 +219,40 @@ fn has_parent(l: &[u8], path: &[u8]) -> bool
     }
 }
 
-// One rule at one entry.
-fn keeps(l: &[u8], rule: Rule, at: usize, p: Place) -> bool
-    requires { ⌜ (at ≤ p .end) × (p .end ≤ p .next) × (p .next ≤ length (now l)) ⌝ }
-    ensures { λ r. ⌜ r ≡ ruleOf rule (now (l .entry)) (rowBy (now (l .entry)) at (p .end) (p .next) (p .directory)) ⌝ }
+// The bytes behind the last "/" are package.json.
+pub fn is_manifest(p: &[u8]) -> bool
+    ensures { λ r. ⌜ r ≡ isManifest (now (p .entry)) ⌝ }
 {
-    let end = p.end;
-    let next = p.next;
-    let path = &l[at..end];
-    match rule {
-        Rule::Sizes => fits(path, &l[end..next]),
-        Rule::Paths => is_path(path),
-        Rule::Parents => has_parent(l, path),
-        Rule::Manifests => {
-            if p.directory {
-                return !is_manifest(path);
-            }
-            true
-        }
+    if p.len() < 12 {
+        return false;
     }
-}
-
-// One rule at every entry.
-fn every(l: &[u8], rule: Rule) -> bool
-    ensures { λ r. ⌜ r ≡ all (ruleOf rule (now (l .entry))) (rows (now (l .entry))) ⌝ }
-{
-    let n = number(l, 0);
-    let mut at = reach(0, 8 + 8 * n, l.len());
-    let mut i = 0;
-    while i < n {
-        let p = locate(l, n, i, at);
-        if !keeps(l, rule, at, p) {
-            return false;
-        }
-        at = p.next;
-        i += 1;
+    let k = p.len() - 12;
+    if !text::equal(&p[k..], b"package.json") {
+        return false;
     }
-    true
-}
-
-fn rises(l: &[u8]) -> bool
-    ensures { λ r. ⌜ r ≡ rising (rows (now (l .entry))) ⌝ }
-{
-    let n = number(l, 0);
-    if n == 0 {
+    if k == 0 {
         return true;
     }
-    let mut start = reach(0, 8 + 8 * n, l.len());
-    let p = locate(l, n, 0, start);
-    let mut end = p.end;
-    let mut at = p.next;
-    let mut i = 1;
-    while i < n {
-        let q = locate(l, n, i, at);
-        let e = q.end;
-        if !text::less(&l[start..end], &l[at..e]) {
-            return false;
-        }
-        start = at;
-        end = e;
-        at = q.next;
-        i += 1;
-    }
-    true
-}
-
-fn starts_at_root(l: &[u8]) -> bool
-    ensures { λ r. ⌜ r ≡ firstIsRoot (rows (now (l .entry))) ⌝ }
-{
-    let n = number(l, 0);
-    if n == 0 {
-        return false;
-    }
-    let at = reach(0, 8 + 8 * n, l.len());
-    let p = locate(l, n, 0, at);
-    let end = p.end;
-    if !text::equal(&l[at..end], b"/") {
-        return false;
-    }
-    p.directory
+    p[k - 1] == b'/'
 }
 
 // The sum of all lengths.
 fn lengths(l: &[u8], n: usize) -> usize
-    requires { ⌜ (n ≡ entryCount (now l)) × (n ≤ 1024) ⌝ }
+    requires { ⌜ (n ≡ entryCount (now l)) × (n ≤ 1024) × (8 + 8 * n ≤ length (now l)) ⌝ }
     ensures { λ r. ⌜ r ≡ lengthsAt (now (l .entry)) 0 ⌝ }
 {
     let mut sum: usize = 0;
     let mut i = 0;
     while i < n {
-        let k = number(l, 8 + 4 * i);
-        let c = number(l, 8 + 4 * n + 4 * i);
-        sum += k + contents(c);
+        let k = number_at(l, 8 + 4 * i);
+        let c = number_at(l, 8 + 4 * n + 4 * i);
+        sum += k + contents_length(c);
         i += 1;
     }
     sum
 }
 
+// 30: the sizes and the sum of the lengths.
 fn sizes(l: &[u8]) -> bool
     ensures { λ r. ⌜ r ≡ sizesFit (now (l .entry)) ⌝ }
 {
@@ -361,61 +273,128 @@ fn sizes(l: &[u8]) -> bool
     lengths(l, n) == t
 }
 
-pub fn passes_30(l: &[u8]) -> bool
-    ensures { λ r. ⌜ r ≡ passes30 (now (l .entry)) ⌝ }
+// The i-th of n entries of a listing whose sizes fit; its path begins at `at`.
+fn locate(l: &[u8], n: usize, i: usize, at: usize) -> Place
+    requires { ⌜ Standing (now l) n i at × (i < n) ⌝ }
+    ensures { λ r. ⌜ Placed (now (l .entry)) i at r × Standing (now (l .entry)) n (i + 1) (r .next) ⌝ }
 {
-    if !sizes(l) {
+    let c = number_at(l, 8 + 4 * n + 4 * i);
+    let end = at + number_at(l, 8 + 4 * i);
+    Place {
+        end: end,
+        next: end + contents_length(c),
+        directory: c == 4294967295,
+    }
+}
+
+// The rules that each entry keeps by itself: 30's of length and contents, 30's of depth, and 32.
+pub enum Rule {
+    Sizes,
+    Depth,
+    Manifests,
+}
+
+fn is_sized(path: &[u8], inner: &[u8]) -> bool
+    ensures { λ r. ⌜ ((d : Bool) → r ≡ sized (record { path = now (path .entry); isDirectory = d; contents = now (inner .entry) })) ⌝ }
+{
+    if path.len() > 1024 {
         return false;
     }
-    every(l, Rule::Sizes)
-}
-
-// Order and parents, entry by entry.
-fn plainly(l: &[u8]) -> bool
-    ensures { λ r. ⌜ r ≡ inOrder (rows (now (l .entry))) ⌝ }
-{
-    if !rises(l) {
-        return false;
+    if inner.len() == 0 {
+        return true;
     }
-    every(l, Rule::Parents)
+    is_manifest(path)
 }
 
-fn mark_of(d: bool) -> u8
-    ensures { λ r. ⌜ r ≡ flag d ⌝ }
+// One rule at one entry.
+fn keeps(l: &[u8], rule: Rule, at: usize, p: Place) -> bool
+    requires { ⌜ (at ≤ p .end) × (p .end ≤ p .next) × (p .next ≤ length (now l)) ⌝ }
+    ensures { λ r. ⌜ r ≡ ruleOf rule (rowBy (now (l .entry)) at (p .end) (p .next) (p .directory)) ⌝ }
 {
-    if d { 1 } else { 0 }
-}
-
-fn cut_of(q: &[u8]) -> usize
-    ensures { λ r. ⌜ Cut (now (q .entry)) r ⌝ }
-{
-    let k = text::rfind(q, b'/');
-    if k == q.len() {
-        return k;
+    let end = p.end;
+    let next = p.next;
+    let path = &l[at..end];
+    match rule {
+        Rule::Sizes => is_sized(path, &l[end..next]),
+        Rule::Depth => text::count(path, b'/') <= 32,
+        Rule::Manifests => {
+            if p.directory {
+                return !is_manifest(path);
+            }
+            true
+        }
     }
-    if k == 0 {
-        return 1;
-    }
-    k
 }
 
-// The marks of the next path, of k bytes, from those of a path of n that shares j.
-fn remark(m: &mut [u8; 1025], j: usize, n: usize, k: usize, d: bool)
-    requires { ⌜ (j < k) × (j ≤ n) × (n ≤ 1024) × (k ≤ 1024) × (length (now m) ≡ 1025) ⌝ }
-    ensures { λ _. ⌜ Remarked j n k d (now (m .entry)) (now (m .exit)) ⌝ }
+// One rule at every entry.
+fn every(l: &[u8], rule: Rule) -> bool
+    requires { ⌜ sizesFit (now l) ≡ true ⌝ }
+    ensures { λ r. ⌜ r ≡ all (ruleOf rule) (rows (now (l .entry))) ⌝ }
 {
-    let mut i = j + 1;
-    while i <= n {
-        m[i] = 0;
+    let n = number(l, 0);
+    let mut at = 8 + 8 * n;
+    let mut i = 0;
+    while i < n {
+        let p = locate(l, n, i, at);
+        if !keeps(l, rule, at, p) {
+            return false;
+        }
+        at = p.next;
         i += 1;
     }
-    m[k] = mark_of(d);
+    true
 }
 
-pub enum Way {
-    Next,
-    Wrong,
-    Unsure,
+fn is_component(c: &[u8]) -> bool
+    ensures { λ r. ⌜ r ≡ isComponent (now (c .entry)) ⌝ }
+{
+    if c.len() == 0 {
+        return false;
+    }
+    if c[0] != b'.' {
+        return true;
+    }
+    if c.len() == 1 {
+        return false;
+    }
+    if c[1] != b'.' {
+        return true;
+    }
+    c.len() != 2
+}
+
+// How many bytes at the front are ASCII and not 0.
+fn plain(c: &[u8]) -> usize
+    ensures { λ r. ⌜ Plain (now (c .entry)) r ⌝ }
+{
+    let mut i = 0;
+    while i < c.len() {
+        if c[i] == 0 {
+            return i;
+        }
+        if c[i] >= 128 {
+            return i;
+        }
+        i += 1;
+    }
+    i
+}
+
+// A component that may stand in a path: most are ASCII, and are read once.
+fn is_name(c: &[u8]) -> bool
+    ensures { λ r. ⌜ r ≡ isName (now (c .entry)) ⌝ }
+{
+    if !is_component(c) {
+        return false;
+    }
+    let i = plain(c);
+    if i == c.len() {
+        return true;
+    }
+    if text::find(c, 0, i) < c.len() {
+        return false;
+    }
+    text::is_utf8(&c[i..])
 }
 
 // Where a larger path parts from a smaller one.
@@ -427,7 +406,7 @@ pub enum Parting {
 fn rise(p: &[u8], q: &[u8]) -> Parting
     ensures { λ r. ⌜ Parts (now (p .entry)) (now (q .entry)) r ⌝ }
 {
-    let mut i = 0;
+    let mut i = shared(p, q);
     loop {
         if i >= q.len() {
             return Parting::Down;
@@ -445,93 +424,123 @@ fn rise(p: &[u8], q: &[u8]) -> Parting
     }
 }
 
-// From the path p to the next, q, which is a directory or not.
-fn step(p: &[u8], q: &[u8], d: bool, m: &mut [u8; 1025]) -> Way
-    requires { ⌜ (length (now p) ≤ 1024) × (length (now m) ≡ 1025) ⌝ }
-    ensures { λ r. ⌜ Stepped (now (p .entry)) (now (q .entry)) d (now (m .entry)) (now (m .exit)) r ⌝ }
+// The marks of the next path, of k bytes, from those of a path of n that shares j; v is its own.
+fn remark(m: &mut [u8; 1025], j: usize, n: usize, k: usize, v: u8)
+    requires { ⌜ (j < k) × (j ≤ n) × (n ≤ 1024) × (k ≤ 1024) × (length (now m) ≡ 1025) ⌝ }
+    ensures { λ _. ⌜ Remarked j n k v (now (m .entry)) (now (m .exit)) ⌝ }
 {
-    let n = q.len();
-    if n < 2 {
-        return Way::Unsure;
+    let mut i = j + 1;
+    while i <= n {
+        m[i] = 0;
+        i += 1;
     }
-    if n > 1024 {
-        return Way::Unsure;
-    }
-    let t = rise(p, q);
-    match t {
-        Parting::Down => return Way::Wrong,
-        Parting::Up(j) => {
-            let k = cut_of(q);
-            if k >= n {
-                return Way::Unsure;
-            }
-            if k > j {
-                return Way::Wrong;
-            }
-            if m[k] == 0 {
-                return Way::Wrong;
-            }
-            remark(m, j, p.len(), n, d);
-            return Way::Next;
-        }
-    }
+    m[k] = v;
 }
 
-// Order and parents in one pass.
+// How many bytes of a path whose last "/" is at s are its parent's.
+fn cut(s: usize) -> usize
+    ensures { λ r. ⌜ r ≡ max s 1 ⌝ }
+{
+    if s == 0 { 1 } else { s }
+}
+
+// An entry's own mark, where its path has v slashes.
+fn mark_of(d: bool, v: u8) -> u8
+    requires { ⌜ v < 255 ⌝ }
+    ensures { λ r. ⌜ r ≡ markOf d v ⌝ }
+{
+    if d { v + 1 } else { 0 }
+}
+
+// From the path p to the next, q, which is a directory or not; m has the marks of p, and then of q. Where the parent is a directory
+// that was seen, it is a path, and only the last component of q is left to test.
+fn step(p: &[u8], q: &[u8], d: bool, m: &mut [u8; 1025]) -> bool
+    requires { ⌜ (length (now p) ≤ 1024) × (length (now q) ≤ 1024) × (length (now m) ≡ 1025) ⌝ }
+    ensures { λ r. ⌜ Stepped (now (p .entry)) (now (q .entry)) d (now (m .entry)) (now (m .exit)) r ⌝ }
+{
+    let s = text::rfind(q, b'/');
+    if s == q.len() {
+        return false;
+    }
+    if s == 1 {
+        return false;
+    }
+    let t = rise(p, q);
+    let Parting::Up(j) = t else {
+        return false;
+    };
+    let k = cut(s);
+    if k > j {
+        return false;
+    }
+    let v = m[k];
+    if v == 0 {
+        return false;
+    }
+    if v > 32 {
+        return false;
+    }
+    let from = s + 1;
+    if !is_name(&q[from..]) {
+        return false;
+    }
+    remark(m, j, p.len(), q.len(), mark_of(d, v));
+    true
+}
+
+// 31 and the rule of depth, in one pass. mark[k] is 0, or the first k bytes of the path are a directory's, and one more than its depth.
 fn ordered(l: &[u8]) -> bool
-    ensures { λ r. ⌜ r ≡ inOrder (rows (now (l .entry))) ⌝ }
+    requires { ⌜ (sizesFit (now l) ≡ true) × (all sized (rows (now l)) ≡ true) ⌝ }
+    ensures { λ r. ⌜ r ≡ (firstIsRoot (rows (now (l .entry))) && inOrder (rows (now (l .entry)))) ⌝ }
 {
     let n = number(l, 0);
-    if n == 0 {
-        return true;
-    }
-    let mut start = reach(0, 8 + 8 * n, l.len());
+    let mut start = 8 + 8 * n;
     let p = locate(l, n, 0, start);
     let mut end = p.end;
     if !text::equal(&l[start..end], b"/") {
-        return plainly(l);
+        return false;
+    }
+    if !p.directory {
+        return false;
     }
     let mut mark = [0u8; 1025];
-    mark[1] = mark_of(p.directory);
+    mark[1] = 1;
     let mut at = p.next;
     let mut i = 1;
     while i < n {
         let q = locate(l, n, i, at);
         let e = q.end;
-        let w = step(&l[start..end], &l[at..e], q.directory, &mut mark);
-        match w {
-            Way::Wrong => return false,
-            Way::Unsure => return plainly(l),
-            Way::Next => {
-                start = at;
-                end = e;
-                at = q.next;
-            }
+        if !step(&l[start..end], &l[at..e], q.directory, &mut mark) {
+            return false;
         }
+        start = at;
+        end = e;
+        at = q.next;
         i += 1;
     }
     true
 }
 
-pub fn passes_31(l: &[u8]) -> bool
-    ensures { λ r. ⌜ r ≡ passes31 (now (l .entry)) ⌝ }
-{
-    if !starts_at_root(l) {
-        return false;
-    }
-    if !every(l, Rule::Paths) {
-        return false;
-    }
-    ordered(l)
+// What the check says: the first of 30, 31 and 32 that is broken anywhere.
+pub enum Checked {
+    Accepted,
+    Refused(u8),
 }
 
 pub fn check(l: &[u8]) -> Checked
     ensures { λ r. ⌜ r ≡ verdict (now (l .entry)) ⌝ }
 {
-    if !passes_30(l) {
+    if !sizes(l) {
         return Checked::Refused(30);
     }
-    if !passes_31(l) {
+    if !every(l, Rule::Sizes) {
+        return Checked::Refused(30);
+    }
+    if !ordered(l) {
+        // a path that is too deep comes before any other fault
+        if !every(l, Rule::Depth) {
+            return Checked::Refused(30);
+        }
         return Checked::Refused(31);
     }
     if !every(l, Rule::Manifests) {

@@ -1,16 +1,17 @@
 -- A path in a buffer of 2,048 bytes, by its length.
 use mathlib.Core.Path.{_≡_, refl, sym, _∙_, ap}
-use Prim.Native.Nat.{ℕ, zero, suc, _+_, _-_, _≤_, _<_}
+use Prim.Native.Nat.{ℕ, _+_, _-_, _≤_, _<_}
 use native.Mathlib.Omega.{arith}
 use mathlib.Core.Bool.{Bool, true, false}
-use mathlib.Core.List.{List, [], _∷_, _++_}
+use mathlib.Core.List.{List, _++_}
 use lib.ListN.{length, drop, take, getD, length-append, length-take}
 use lib.Seq.{length-take-le, take-length, take-take, getD-take, paste, take-paste}
 use lib.Dec.{leb, ltb}
 use borrow.Author.Tests.{le-leb, lt-leb, le-ltb, lt-ltb, leb-true, leb-false}
-use Rattle.definition.specs.Text.{text, slash}
-use Rattle.definition.specs.Path.{Built, built, tooLong, andPath, limited, push, parent, addExtension, addNameAndExtension}
+use Rattle.definition.specs.Text.{text, slash, contains, beforeLast}
+use Rattle.definition.specs.Path.{Built, built, tooLong, andPath, limited, push, parent, nameOf, addExtension, addNameAndExtension}
 use Rattle.definition.specs.PathLaws.{limited-fits, limited-long, limited-append, then-append, push-empty, push-slash, push-plain}
+use Rattle.definition.specs.PathSteps.{parent-none, parent-root, parent-some, name-behind, name-whole, last-inside, last-missing, last-found}
 use Rattle.path.specs.Meaning.{pathAt, isTooLong}
 
 module _ (b : List ℕ) (n : ℕ) where
@@ -89,3 +90,27 @@ over-is b n = go (leb n 2048) refl
     go : (u : Bool) → leb n 2048 ≡ u → ltb 2048 n ≡ isTooLong (pathAt b n)
     go true h = rw (at-fits b n (leb-true _ _ h)) (le-ltb 2048 n (leb-true n 2048 h))
     go false h = rw (at-long b n (leb-false _ _ h)) (lt-ltb 2048 n (leb-false n 2048 h))
+
+-- `parent_len` and `name_of`, by the place k of the last slash
+module _ (p : List ℕ) (k : ℕ) (e : k ≡ length (beforeLast slash p)) where
+  missing : length p ≤ k → contains slash p ≡ false
+  missing h = last-missing slash p (omega (arith, last-inside slash p))
+
+  pub parent-nothing : length p ≤ k → parent p ≡ take 0 p
+  parent-nothing h = parent-none p (missing h)
+
+  pub name-all : length p ≤ k → nameOf p ≡ p
+  name-all h = name-whole p (missing h)
+
+  module _ (h : k < length p) where
+    pub parent-slash : k ≡ 0 → parent p ≡ take 1 p
+    parent-slash z = let l = last-found slash p k e h in parent-root p k h (l .there) (l .front) z (rw z at (l .here))
+
+    pub parent-front : (k ≡ 0 → ⊥) → parent p ≡ take k p
+    parent-front z =
+        let l = last-found slash p k e h in
+        let d : k - 0 ≡ k = omega arith in
+        parent-some p k h (l .there) (l .front) z ∙ rw d
+
+    pub name-rest : nameOf p ≡ take (length p - (k + 1)) (drop (k + 1) p)
+    name-rest = let l = last-found slash p k e h in name-behind p k h (l .there) (l .front)

@@ -1,9 +1,10 @@
 // Paths: a path under construction, and path.rs.
 ghost use mathlib.Core.Path.{_≡_};
-ghost use mathlib.Core.List.{[], _++_};
+ghost use mathlib.Core.List.{[]};
 ghost use Prim.Native.Nat.{_≤_};
 ghost use lib.ListN.{length, take};
-ghost use Rattle.definition.specs.Path.{built, andPath, limited, push, parent, addExtension, addNameAndExtension, manifestOf, nameOf};
+ghost use Rattle.definition.specs.Path.{built, andPath, limited, push, parent, addExtension, addNameAndExtension, manifestOf, nameOf, component, pushAll, normalizeWith, pops, pushRelative, normalizeRelative, anyInvalid, isInvalidExportsTarget};
+ghost use Rattle.definition.specs.PathLaws.{parts, rootOf};
 ghost use Rattle.path.specs.Meaning.{pathAt, pathOf, isTooLong};
 
 // A path under construction, by value. A length over 2,048 marks a path that was over-long: it has no text, and every method keeps it so.
@@ -156,14 +157,144 @@ impl PathBuf {
     pub fn from(text: &[u8]) -> PathBuf
         ensures { λ r. ⌜ pathOf r ≡ limited (now (text .entry)) ⌝ }
     {
-        let mut bytes = [0u8; 2048];
-        let len = put(&mut bytes, 0, text);
-        PathBuf { bytes, len }
+        PathBuf::new().append(text)
     }
 
     pub fn over_long(self) -> bool
         ensures { λ r. ⌜ r ≡ isTooLong (pathOf self) ⌝ }
     {
         self.len > 2048
+    }
+}
+
+// Pushes the component of one part between slashes, as `push_normalized_component`; an empty part and "." are none.
+fn push_part(b: &mut [u8; 2048], n: usize, part: &[u8]) -> usize
+    requires { ⌜ length (now b) ≡ 2048 ⌝ }
+    ensures { λ r. ⌜ length (now (b .exit)) ≡ 2048 ⌝ }
+    ensures { λ r. ⌜ pathAt (now (b .exit)) r ≡ andPath (pathAt (now (b .entry)) n) (λ p. pushAll (component (now (part .entry))) p) ⌝ }
+{
+    if part.len() == 0 {
+        return n;
+    }
+    if text::equal(part, b".") {
+        return n;
+    }
+    if text::equal(part, b"..") {
+        return up(b, n);
+    }
+    join(b, n, part)
+}
+
+// Pushes the components of a relative path.
+fn push_parts(b: &mut [u8; 2048], from: usize, sub: &[u8]) -> usize
+    requires { ⌜ length (now b) ≡ 2048 ⌝ }
+    ensures { λ r. ⌜ pathAt (now (b .exit)) r ≡ andPath (pathAt (now (b .entry)) from) (λ p. pushAll (parts (now (sub .entry))) p) ⌝ }
+{
+    let mut n = from;
+    let mut at = 0;
+    loop {
+        let e = text::find(sub, b'/', at);
+        n = push_part(b, n, &sub[at..e]);
+        if e >= sub.len() {
+            return n;
+        }
+        at = e + 1;
+    }
+}
+
+// A subpath from a base: "." is dropped, ".." pops; an empty or absolute subpath is the answer itself.
+pub fn normalize_with(base: &[u8], sub: &[u8]) -> PathBuf
+    ensures { λ r. ⌜ pathOf r ≡ normalizeWith (now (base .entry)) (now (sub .entry)) ⌝ }
+{
+    if sub.len() == 0 {
+        return PathBuf::from(sub);
+    }
+    if sub[0] == b'/' {
+        return PathBuf::from(sub);
+    }
+    let mut p = PathBuf::from(base);
+    let n = p.len;
+    p.len = push_parts(&mut p.bytes, n, sub);
+    p
+}
+
+// The "/" of an absolute path; nothing of any other.
+fn root(p: &[u8]) -> &[u8]
+    ensures { λ r. ⌜ now r ≡ rootOf (now (p .entry)) ⌝ }
+{
+    if p.len() == 0 {
+        return p;
+    }
+    if p[0] == b'/' { &p[0..1] } else { &p[0..0] }
+}
+
+// Whether a path has a component to pop.
+fn pops(p: &[u8]) -> bool
+    ensures { λ r. ⌜ r ≡ pops (now (p .entry)) ⌝ }
+{
+    if p.len() == 0 {
+        return false;
+    }
+    !text::equal(p, b"/")
+}
+
+// As `push_part`, but ".." stays where nothing is left to pop.
+fn push_relative_part(b: &mut [u8; 2048], n: usize, part: &[u8]) -> usize
+    requires { ⌜ length (now b) ≡ 2048 ⌝ }
+    ensures { λ r. ⌜ length (now (b .exit)) ≡ 2048 ⌝ }
+    ensures { λ r. ⌜ pathAt (now (b .exit)) r ≡ andPath (pathAt (now (b .entry)) n) (λ p. limited (pushRelative (component (now (part .entry))) p)) ⌝ }
+{
+    if text::equal(part, b"..") {
+        if !pops(first(b, n)) {
+            return join(b, n, part);
+        }
+    }
+    push_part(b, n, part)
+}
+
+// A path without ".", and without ".." behind a component.
+pub fn normalize_relative(p: &[u8]) -> PathBuf
+    ensures { λ r. ⌜ pathOf r ≡ andPath (limited (now (p .entry))) (λ q. built (normalizeRelative q)) ⌝ }
+{
+    if p.len() > 2048 {
+        return PathBuf::from(p);
+    }
+    let head = root(p);
+    let mut r = PathBuf::from(head);
+    let mut at = head.len();
+    loop {
+        let e = text::find(p, b'/', at);
+        let n = r.len;
+        r.len = push_relative_part(&mut r.bytes, n, &p[at..e]);
+        if e >= p.len() {
+            return r;
+        }
+        at = e + 1;
+    }
+}
+
+fn is_invalid_part(part: &[u8]) -> bool
+    ensures { λ r. ⌜ r ≡ anyInvalid (component (now (part .entry))) ⌝ }
+{
+    if text::equal(part, b"..") {
+        return true;
+    }
+    text::eq_ignore_ascii_case(part, b"node_modules")
+}
+
+// Whether a component is ".." or, in any case of letters, node_modules.
+pub fn is_invalid_exports_target(t: &[u8]) -> bool
+    ensures { λ r. ⌜ r ≡ isInvalidExportsTarget (now (t .entry)) ⌝ }
+{
+    let mut at = 0;
+    loop {
+        let e = text::find(t, b'/', at);
+        if is_invalid_part(&t[at..e]) {
+            return true;
+        }
+        if e >= t.len() {
+            return false;
+        }
+        at = e + 1;
     }
 }

@@ -1,11 +1,10 @@
 // The lent settings: whether they are in order (24), and their texts by kind. Every function takes any bytes.
 ghost use mathlib.Core.Path.{_≡_};
-ghost use mathlib.Core.Bool.{Bool, _&&_, _||_};
-ghost use mathlib.Core.List.{List, []};
-ghost use Prim.Native.Nat.{ℕ, _+_, _≤_, _<_};
-ghost use lib.Dec.{leb, ltb};
-ghost use lib.ListN.{length, take, drop, getD};
-ghost use Rattle.definition.specs.Settings.{countOf, countBefore, textLengths, textsOf, sum, isSetting, isNonEmpty, passes24};
+ghost use mathlib.Core.Bool.{_&&_, _||_};
+ghost use mathlib.Core.List.{[]};
+ghost use Prim.Native.Nat.{_+_, _≤_, _<_};
+ghost use lib.ListN.{length, take, getD};
+ghost use Rattle.definition.specs.Settings.{countBefore, textLengths, textsOf, sum, isSetting, isNonEmpty, passes24};
 ghost use Rattle.definition.specs.SettingsLaws.{countsPass, isExtension};
 ghost use Rattle.settings.specs.Meaning.{numberOf};
 

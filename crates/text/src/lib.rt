@@ -22,6 +22,7 @@ pub fn equal(a: &[u8], b: &[u8]) -> bool
     true
 }
 
+// An ASCII letter in lower case, any other byte as it is.
 fn lower(b: u8) -> u8
     ensures { λ r. ⌜ r ≡ lowerCase b ⌝ }
 {
@@ -70,6 +71,7 @@ pub fn ends_with(s: &[u8], suffix: &[u8]) -> bool
     equal(suffix, &s[at..])
 }
 
+// Whether a comes before b, byte by byte.
 pub fn less(a: &[u8], b: &[u8]) -> bool
     ensures { λ r. ⌜ r ≡ smaller (now (a .entry)) (now (b .entry)) ⌝ }
 {
@@ -220,8 +222,9 @@ pub fn zero_from_u32(words: &mut [u32], at: usize)
 }
 
 // What a byte that begins a character leaves due.
-pub enum Owed {
-    More { n: u8, low: u8, high: u8 },
+enum Owed {
+    // This many bytes, and the bounds of the next of them.
+    More(u8, u8, u8),
     Bad,
 }
 
@@ -229,63 +232,31 @@ fn opens(b: u8) -> Owed
     ensures { λ r. ⌜ meant r ≡ dueAfter b ⌝ }
 {
     if b < 128 {
-        return Owed::More {
-            n: 0,
-            low: 0,
-            high: 0,
-        };
+        return Owed::More(0, 0, 0);
     }
     if b < 194 {
         return Owed::Bad;
     }
     if b <= 223 {
-        return Owed::More {
-            n: 1,
-            low: 128,
-            high: 191,
-        };
+        return Owed::More(1, 128, 191);
     }
     if b == 224 {
-        return Owed::More {
-            n: 2,
-            low: 160,
-            high: 191,
-        };
+        return Owed::More(2, 160, 191);
     }
     if b == 237 {
-        return Owed::More {
-            n: 2,
-            low: 128,
-            high: 159,
-        };
+        return Owed::More(2, 128, 159);
     }
     if b <= 239 {
-        return Owed::More {
-            n: 2,
-            low: 128,
-            high: 191,
-        };
+        return Owed::More(2, 128, 191);
     }
     if b == 240 {
-        return Owed::More {
-            n: 3,
-            low: 144,
-            high: 191,
-        };
+        return Owed::More(3, 144, 191);
     }
     if b <= 243 {
-        return Owed::More {
-            n: 3,
-            low: 128,
-            high: 191,
-        };
+        return Owed::More(3, 128, 191);
     }
     if b == 244 {
-        return Owed::More {
-            n: 3,
-            low: 128,
-            high: 143,
-        };
+        return Owed::More(3, 128, 143);
     }
     Owed::Bad
 }
@@ -303,14 +274,10 @@ fn next(n: u8, low: u8, high: u8, b: u8) -> Owed
     if high < b {
         return Owed::Bad;
     }
-    Owed::More {
-        n: n - 1,
-        low: 128,
-        high: 191,
-    }
+    Owed::More(n - 1, 128, 191)
 }
 
-// At least every byte of s.
+// No byte of s is larger.
 fn largest(s: &[u8]) -> u8
     ensures { λ r. ⌜ ((k : ℕ) → k < length (now (s .entry)) → getD (now (s .entry)) k 0 ≤ r) ⌝ }
 {
@@ -340,11 +307,7 @@ pub fn is_utf8(s: &[u8]) -> bool
         let o = next(n, low, high, s[i]);
         match o {
             Owed::Bad => return false,
-            Owed::More {
-                n: m,
-                low: x,
-                high: y,
-            } => {
+            Owed::More(m, x, y) => {
                 n = m;
                 low = x;
                 high = y;

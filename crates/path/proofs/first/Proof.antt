@@ -1,13 +1,11 @@
 use borrow.Author.Needs.{needs}
 use native.Mathlib.Omega.{arith}
-use mathlib.Core.Path.{_≡_, refl, sym, ap}
+use mathlib.Core.Path.{_≡_, sym, ap}
 use Prim.Native.Nat.{_-_}
 use lib.ListN.{take}
 use lib.Seq.{take-all}
 use Rattle.path.proofs.first.Statement.{statement}
 use Rattle.path.proofs.first.Tie as tie
-use Rattle.path.proofs.first.Reads as reads
-use Rattle.path.proofs.first.Lts as lts
 
 pub first-spec : {M : Type 1} → statement M
 first-spec =

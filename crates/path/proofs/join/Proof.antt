@@ -1,6 +1,5 @@
 use borrow.Author.Needs.{needs}
-use native.Mathlib.Omega.{arith}
-use mathlib.Core.Path.{_≡_, sym, _∙_, ap}
+use mathlib.Core.Path.{_∙_}
 use Rattle.path.proofs.Steps.{join-empty, join-over, join-slash, join-plain}
 use Rattle.path.proofs.join.Statement.{statement}
 use Rattle.path.proofs.join.Tie as tie

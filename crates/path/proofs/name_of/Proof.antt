@@ -1,10 +1,6 @@
 use borrow.Author.Needs.{needs}
-use native.Mathlib.Omega.{arith}
-use mathlib.Core.Path.{sym, _∙_}
-use Prim.Native.Nat.{_+_, _-_}
-use lib.ListN.{length, drop, length-drop}
-use lib.Seq.{take-all}
-use Rattle.definition.specs.PathLaws.{name-whole, name-behind}
+use mathlib.Core.Path.{sym}
+use Rattle.path.proofs.Steps.{name-all, name-rest}
 use Rattle.path.proofs.name_of.Statement.{statement}
 use Rattle.path.proofs.name_of.Tie as tie
 
@@ -13,12 +9,9 @@ name-of-spec =
     tie.close
     (tie.spec
     (λ c κs. search needs)
-    (λ c. sym (name-whole _ _ (c .before .rfind .ensures) (c .if1 .taken)))
+    (λ c. sym (name-all _ _ (c .before .rfind .ensures) (c .if1 .taken)))
     (λ c. search needs)
     (λ c. search needs)
     (λ c. search needs)
     (λ c. search needs)
-    (λ c.
-    let p = c .before .before .before .before .args .p .now in
-    let k = c .before .before .rfind .result in
-    take-all (length p - (k + 1)) (drop (k + 1) p) (omega (arith, length-drop (k + 1) p)) ∙ sym (name-behind p k (c .before .before .rfind .ensures) (c .before .if1 .left))))
+    (λ c. sym (name-rest _ _ (c .before .before .rfind .ensures) (c .before .if1 .left))))

@@ -2,14 +2,12 @@ use borrow.Author.Needs.{needs}
 use native.Mathlib.Omega.{arith}
 use native.Mathlib.Numerals.{add-one}
 use mathlib.Core.Path.{_≡_, ap, _∙_}
-use Prim.Native.Nat.{_+_, _-_, _≤_}
+use Prim.Native.Nat.{_-_, _≤_}
 use lib.ListN.{length}
 use lib.Seq.{paste, paste-zero, paste-suc, length-paste}
 use Rattle.path.proofs.Steps.{put-over, put-long, put-fits}
 use Rattle.path.proofs.put.Statement.{statement}
 use Rattle.path.proofs.put.Tie as tie
-use Rattle.path.proofs.put.Reads as reads
-use Rattle.path.proofs.put.Lts as lts
 
 abbrev Inv-loop : tie.InvT-loop
 Inv-loop b₀ n t i₀ b i = (i ≤ length t) × (b ≡ paste b₀ n t i)

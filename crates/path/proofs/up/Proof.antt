@@ -1,5 +1,4 @@
 use borrow.Author.Needs.{needs}
-use native.Mathlib.Omega.{arith}
 use Rattle.path.proofs.Steps.{up-over, up-parent}
 use Rattle.path.proofs.up.Statement.{statement}
 use Rattle.path.proofs.up.Tie as tie

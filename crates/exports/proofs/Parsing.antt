@@ -1,0 +1,146 @@
+-- A string as a target, taken apart.
+use mathlib.Core.Path.{_≡_, refl, sym, _∙_, ap}
+use mathlib.Core.Bool.{Bool, true, false, not, _&&_}
+use mathlib.Core.List.{List, [], _∷_, _++_, flatMap}
+use Prim.Native.Nat.{ℕ, zero, suc, _+_, _*_, _-_, _/_, _<_, _≤_}
+use native.Mathlib.Omega.{arith}
+use lib.ListN.{length, take, drop, getD, length-append, length-drop, length-take}
+use lib.Seq.{take-all}
+use lib.Dec.{eqb, ltb}
+use borrow.Author.Tests.{lt-ltb}
+use Rattle.definition.specs.Text.{text, if_then_else_, hash, question, containsText, startsWith, before, from, utf8, trail}
+use Rattle.definition.specs.TextSteps.{before-inside}
+use Rattle.definition.specs.Path.{Built, limited}
+use Rattle.definition.specs.Specifier.{Specifier, parsed, emptySpecifier, beforeFragment, body, unescape, pathBefore, orEmpty, parseSpecifier}
+use Rattle.definition.specs.Exports as exports
+use Rattle.definition.specs.Exports.{Request, failed, withQueryFragment, targetPath, normalizeStringTarget, invalidTarget, stringTarget}
+use Rattle.path.specs.declared.PathBuf.{PathBuf}
+use Rattle.path.specs.Meaning.{pathOf}
+use Rattle.specifier.specs.declared.Specifier as answer
+use Rattle.specifier.specs.Meaning.{parts, noPath, partsOf, meant}
+use Rattle.specifier.proofs.Parsed.{body-take, body-inside}
+use Rattle.exports.specs.declared.Context.{Context}
+use Rattle.exports.specs.declared.Outcome.the-variants.{Empty, InvalidTarget}
+use Rattle.exports.specs.Contexts.{contextOf}
+use Rattle.exports.specs.Answers.{pathText, outcomeIn, resolved}
+use Rattle.exports.proofs.Targets.{path-text}
+
+-- a path of bytes is at most twice as long as its specifier
+abbrev pub Bytes : List ℕ → Type 0
+Bytes s = (k : ℕ) → getD s k 0 < 256
+
+utf8-two : (b : ℕ) → b < 256 → length (utf8 b) ≤ 2
+unfolding utf8
+utf8-two b h = rw (lt-ltb b 2048 (omega arith)) (go (ltb b 128))
+  where
+    go : (t : Bool) → length (if t then b ∷ [] else (192 + b / 64) ∷ trail b ∷ []) ≤ 2
+    go true = omega arith
+    go false = omega arith
+
+bytes-take : (n : ℕ) (s : List ℕ) → Bytes s → Bytes (take n s)
+bytes-take zero s h k = omega arith
+bytes-take (suc n) [] h k = h k
+bytes-take (suc n) (b ∷ s) h zero = h 0
+bytes-take (suc n) (b ∷ s) h (suc k) = bytes-take n s (λ i. h (suc i)) k
+
+bytes-before : (c : ℕ) (s : List ℕ) → Bytes s → Bytes (before c s)
+unfolding before
+bytes-before c [] h = h
+bytes-before c (b ∷ s) h = go (eqb b c) (bytes-before c s (λ i. h (suc i)))
+  where
+    go : (t : Bool) → Bytes (before c s) → Bytes (if t then [] else b ∷ before c s)
+    go true g k = omega arith
+    go false g zero = h 0
+    go false g (suc k) = g k
+
+widened-size : (s : List ℕ) → Bytes s → length (flatMap utf8 (unescape s)) ≤ 2 * length s
+unfolding unescape flatMap
+widened-size [] h = omega arith
+widened-size (b ∷ s) h = go (eqb b 0 && startsWith (text "#") s) (widened-size s (λ k. h (suc k)))
+  where
+    go : (t : Bool) → length (flatMap utf8 (unescape s)) ≤ 2 * length s → length (flatMap utf8 ((if t then [] else b ∷ []) ++ unescape s)) ≤ 2 * suc (length s)
+    go true g = omega arith
+    go false g = omega (arith, utf8-two b (h 0), length-append (utf8 b) (flatMap utf8 (unescape s)))
+
+path-size : (s : List ℕ) → Bytes s → length (pathBefore s) ≤ 2 * length s
+unfolding pathBefore
+path-size s h = go (containsText (0 ∷ hash ∷ []) s)
+  where
+    go : (t : Bool) → length (if t then flatMap utf8 (unescape (before question s)) else before question s) ≤ 2 * length s
+    go true = omega (arith, widened-size (before question s) (bytes-before question s h), before-inside question s)
+    go false = omega (arith, before-inside question s)
+
+pub parsed-size : (s p q f : List ℕ) → Bytes s → parseSpecifier s ≡ parsed p q f → length p ≤ 2 * length s
+unfolding parseSpecifier orEmpty
+parsed-size s p q f h e = go (pathBefore (body s)) (from question (body s)) (drop (length (body s)) s) (path-size (body s) inner) e
+  where
+    inner : Bytes (body s)
+    inner = rw (body-take s) (bytes-take (length (body s)) s h)
+
+    go : (x y z : List ℕ) → length x ≤ 2 * length (body s) → orEmpty x y z ≡ parsed p q f → length p ≤ 2 * length s
+    go [] y z l g = absurd (let o : _≡_ {A = ℕ} 0 1 = cc in omega arith)
+    go (b ∷ x) y z l g = let i : b ∷ x ≡ p = cc in omega (arith, ap length i, body-inside s)
+
+-- what `Specifier::parse` gives
+pub record Parsed (s : List ℕ) (r : answer.Specifier) : Type 0 where
+  pub path : List ℕ
+  pub is : parseSpecifier s ≡ parsed path (drop (r .query) (take (r .fragment) s)) (drop (r .fragment) s)
+  pub limits : pathOf (r .path) ≡ limited path
+
+module _ (s : List ℕ) (r : answer.Specifier) (e : meant s r ≡ partsOf (parseSpecifier s)) where
+  pub is-empty : r .empty ≡ true → parseSpecifier s ≡ emptySpecifier
+  unfolding meant
+  is-empty h = go (parseSpecifier s) (rw h at e)
+    where
+      go : (x : Specifier) → noPath ≡ partsOf x → x ≡ emptySpecifier
+      go (parsed p q f) g = cc
+      go emptySpecifier g = refl
+
+  pub is-parsed : r .empty ≡ false → Parsed s r
+  unfolding meant
+  is-parsed h = go (parseSpecifier s) refl (rw h at e)
+    where
+      go : (x : Specifier) → parseSpecifier s ≡ x → parts (pathOf (r .path)) (drop (r .query) (take (r .fragment) s)) (drop (r .fragment) s) ≡ partsOf x → Parsed s r
+      go (parsed p q f) i g = record { path = p; is = cc; limits = cc }
+      go emptySpecifier i g = absurd (let o : _≡_ {A = ℕ} 0 1 = cc in omega arith)
+
+  module _ (q : Request) (c : Context) (l : length s ≤ 1024) where
+    pub string-empty : r .empty ≡ true → (p : PathBuf) → pathOf p ≡ limited s → resolved c (outcomeIn (q .packageURL) (q .key) (q .matched) Empty (pathText p)) ≡ stringTarget q (parseSpecifier s) s (contextOf c)
+    unfolding stringTarget
+    string-empty h p f = rw (is-empty h, path-text p s f (omega arith))
+
+    module _ (b : Bytes s) (h : r .empty ≡ false) (d : Context)
+        (w : contextOf d ≡ withQueryFragment (contextOf c) (take 1024 (take (length s) (drop (r .query) (take (r .fragment) s)))) (take 1024 (take (length s) (drop (r .fragment) s))))
+        (t : List ℕ) (f : t ≡ pathText (r .path)) where
+      all-of : (x : List ℕ) → length x ≤ length s → take 1024 (take (length s) x) ≡ x
+      all-of x k = ap (take 1024) (take-all (length s) x k) ∙ take-all 1024 x (omega arith)
+
+      query-is : take 1024 (take (length s) (drop (r .query) (take (r .fragment) s))) ≡ drop (r .query) (take (r .fragment) s)
+      query-is = all-of (drop (r .query) (take (r .fragment) s)) (omega (arith, length-drop (r .query) (take (r .fragment) s), length-take (r .fragment) s))
+
+      fragment-is : take 1024 (take (length s) (drop (r .fragment) s)) ≡ drop (r .fragment) s
+      fragment-is = all-of (drop (r .fragment) s) (omega (arith, length-drop (r .fragment) s))
+
+      context-is : contextOf d ≡ withQueryFragment (contextOf c) (drop (r .query) (take (r .fragment) s)) (drop (r .fragment) s)
+      context-is = w ∙ ap (λ x. withQueryFragment (contextOf c) x (take 1024 (take (length s) (drop (r .fragment) s)))) query-is ∙ ap (λ x. withQueryFragment (contextOf c) (drop (r .query) (take (r .fragment) s)) x) fragment-is
+
+      text-is : t ≡ is-parsed h .path
+      text-is = let p = is-parsed h in f ∙ path-text (r .path) (p .path) (p .limits) (omega (arith, parsed-size s (p .path) (drop (r .query) (take (r .fragment) s)) (drop (r .fragment) s) b (p .is)))
+
+      whole : (o : exports.Outcome) → o ≡ (if startsWith (text "./") t then targetPath q (normalizeStringTarget (q .key) t (q .matched)) else invalidTarget q t) → resolved d o ≡ stringTarget q (parseSpecifier s) s (contextOf c)
+      unfolding stringTarget
+      whole o g = rw (is-parsed h .is, context-is, g, text-is)
+
+      pub string-valid : startsWith (text "./") t ≡ true → resolved d (targetPath q (normalizeStringTarget (q .key) t (q .matched))) ≡ stringTarget q (parseSpecifier s) s (contextOf c)
+      string-valid g = whole _ (rw g)
+
+      pub string-invalid : startsWith (text "./") t ≡ false → resolved d (outcomeIn (q .packageURL) (q .key) (q .matched) InvalidTarget (pathText (r .path))) ≡ stringTarget q (parseSpecifier s) s (contextOf c)
+      unfolding invalidTarget
+      string-invalid g = whole _ (rw g (ap (invalidTarget q) (sym f)))
+
+-- the context from the slices that the code cuts out
+pub context-of : (y x : exports.Context) (a b f s : List ℕ) (n q k : ℕ) → y ≡ withQueryFragment x (take 1024 a) (take 1024 b) → a ≡ take n (drop q f) → f ≡ take k s → b ≡ take n (drop k s)
+    → y ≡ withQueryFragment x (take 1024 (take n (drop q (take k s)))) (take 1024 (take n (drop k s)))
+context-of y x a b f s n q k e g h i =
+    e ∙ ap (λ z. withQueryFragment x (take 1024 z) (take 1024 b)) (g ∙ ap (λ z. take n (drop q z)) h)
+    ∙ ap (λ z. withQueryFragment x (take 1024 (take n (drop q (take k s)))) (take 1024 z)) i

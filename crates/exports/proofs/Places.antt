@@ -1,0 +1,184 @@
+-- What stands at a place, taken apart.
+use mathlib.Core.Path.{_≡_, refl, sym, _∙_, ap}
+use mathlib.Core.Bool.{Bool, true, false, _&&_}
+use mathlib.Core.List.{List, [], _∷_}
+use mathlib.Core.Option.{Option, none, some}
+use Prim.Native.Nat.{ℕ, zero, suc, _+_, _-_, _<_, _≤_}
+use native.Mathlib.Omega.{arith}
+use lib.ListN.{length, drop}
+use lib.Dec.{eqb}
+use borrow.Author.Tests.{eq-eqb, ne-eqb, eqb-true, eqb-false}
+use Rattle.definition.specs.Text.{if_then_else_, equal}
+use Rattle.definition.specs.Json.{Json, scalar, str, arr, obj, Elements, noElement, element, Members, noMember, member, Read, got, value, valueBy, quoted}
+use Rattle.definition.specs.JsonAt as json
+use Rattle.definition.specs.JsonAt.{aScalar, aString, anArray, anObject, kindAt, thenAt, firstMember, firstElement, nextElement, memberValue, nextMember, getAt, findMember, isText, nameIs, textAt}
+use Rattle.definition.specs.JsonAtLaws as at
+use Rattle.definition.specs.JsonAtLaws.{members-there, no-members, elements-there, no-elements, text-shape, array-shape, object-shape, scalar-shape, finds, finds-none}
+use Rattle.definition.specs.JsonSoundLaws.{quoted-sound}
+use Rattle.definition.specs.Exports.{get, entries}
+use Rattle.package_json.specs.declared.Cursor.{Cursor}
+use Rattle.package_json.specs.declared.Cursor.the-variants.{At, Nothing}
+use Rattle.package_json.specs.declared.TextAt.{TextAt}
+use Rattle.package_json.specs.declared.Kind as kind
+use Rattle.package_json.specs.Cursors as cursors
+use Rattle.package_json.specs.Cursors.{placed, textOf, told, orEmpty}
+use Rattle.exports.specs.declared.Kind.{Kind}
+use Rattle.exports.specs.declared.Kind.the-variants.{Scalar, String, Array, Object}
+use Rattle.exports.specs.Places.{Stands, MembersAt, ElementsAt, MembersFrom, ElementsFrom, kindOf, Finds}
+
+none-of : {P : Type 0} → ⊥ → P
+none-of z = absurd z
+
+-- from the definition's cursors to the code's
+none-members : {d n : ℕ} {ms : Members} → at.MembersFrom d n ms none → ms ≡ noMember
+none-members no-members = refl
+
+none-elements : {d n : ℕ} {js : Elements} → at.ElementsFrom d n js none → js ≡ noElement
+none-elements no-elements = refl
+
+members-from : (m : List ℕ) (d n : ℕ) (ms : Members) (c : Cursor) → at.MembersFrom d n ms (placed m c) → MembersFrom m d n ms c
+members-from m d n ms (At i) (members-there h) = record { here = h }
+members-from m d n ms Nothing h = none-members h
+
+elements-from : (m : List ℕ) (d n : ℕ) (js : Elements) (c : Cursor) → at.ElementsFrom d n js (placed m c) → ElementsFrom m d n js c
+elements-from m d n js (At i) (elements-there h) = record { here = h }
+elements-from m d n js Nothing h = none-elements h
+
+finds-from : (m : List ℕ) (d : ℕ) (o : Option Json) (c : Cursor) → at.Finds d o (placed m c) → Finds m d o c
+finds-from m d (some j) (At i) (finds h) = record { here = h }
+finds-from m d none Nothing finds-none = tt
+
+-- the first of what a bracket opens, and the value of a name
+module _ (m : List ℕ) (i : ℕ) (c : Cursor) where
+  pub first-members : placed m c ≡ firstMember (drop i m) → (d : ℕ) (ms : Members) → Stands m (suc d) i (obj ms) → MembersFrom m d 128 ms c
+  first-members e d ms h = members-from m d 128 ms c (rw e (at.first-member (h .here)))
+
+  pub first-elements : placed m c ≡ firstElement (drop i m) → (d : ℕ) (js : Elements) → Stands m (suc d) i (arr js) → ElementsFrom m d 128 js c
+  first-elements e d js h = elements-from m d 128 js c (rw e (at.first-element (h .here)))
+
+  pub get-finds : (k : List ℕ) → placed m c ≡ getAt k (drop i m) → (d : ℕ) (ms : Members) → Stands m (suc d) i (obj ms) → Finds m d (get k (entries ms)) c
+  unfolding getAt
+  get-finds k e d ms h = finds-from m d (get k (entries ms)) c (rw e (at.find-here 128 k (at.first-member (h .here))))
+
+  -- an element, and the next
+  pub element-is : placed m c ≡ nextElement (drop i m) → (d n : ℕ) (j : Json) (js : Elements) → ElementsAt m d n i (element j js) → Stands m d i j × ElementsFrom m d (n - 1) js c
+  element-is e d n j js h =
+      let x = at.element-here (h .here) in
+      let a : x .first ≡ j = cc (x .is) in
+      let b : x .others ≡ js = cc (x .is) in
+      let l : x .left ≡ n - 1 = omega (arith, x .count) in
+      (record { here = rw a at (x .stands) }, elements-from m d (n - 1) js c (rw e (rw (l, b) at (x .next))))
+
+  -- a member, and the next
+  pub member-is : (v : ℕ) → some (drop v m) ≡ memberValue (drop i m) → placed m c ≡ nextElement (drop v m) → (d n : ℕ) (k : List ℕ) (j : Json) (ms : Members) → MembersAt m d n i (member k j ms) → Stands m d v j × MembersFrom m d (n - 1) ms c
+  unfolding nextMember
+  member-is v f e d n k j ms h =
+      let x = at.member-here (h .here) in
+      let a : x .first ≡ j = cc (x .is) in
+      let b : x .others ≡ ms = cc (x .is) in
+      let l : x .left ≡ n - 1 = omega (arith, x .count) in
+      let p : x .from ≡ drop v m = cc (x .place, f) in
+      (record { here = rw (p, a) at (x .stands) }, members-from m d (n - 1) ms c (rw e (rw (x .place, p, l, b) at (x .next))))
+
+pub member-no-value : (m : List ℕ) (i : ℕ) {P : Type 0} → none ≡ memberValue (drop i m) → (d n : ℕ) (ms : Members) → MembersAt m d n i ms → P
+member-no-value m i f d n ms h = none-of (let x = at.member-here (h .here) in let y = x .place in let z : _≡_ {A = ℕ} 0 1 = cc in omega arith)
+
+-- one member, one element
+pub record One (m : List ℕ) (d n i : ℕ) (ms : Members) : Type 0 where
+  pub name : List ℕ
+  pub val : Json
+  pub others : Members
+  pub is : ms ≡ member name val others
+  pub behind : List ℕ
+  pub quote : quoted (drop i m) ≡ got name behind
+
+pub one : {m : List ℕ} {d n i : ℕ} {ms : Members} → MembersAt m d n i ms → One m d n i ms
+one h = let x = at.member-here (h .here) in record { name = x .name; val = x .first; others = x .others; is = x .is; behind = x .end; quote = x .quote }
+
+pub none-left : {m : List ℕ} {d n i : ℕ} {ms : Members} → MembersAt m d n i ms → n ≡ 0 → ⊥
+none-left h e = let x = at.member-here (h .here) in omega (arith, x .count)
+
+pub record OneElement (m : List ℕ) (d n i : ℕ) (js : Elements) : Type 0 where
+  pub val : Json
+  pub others : Elements
+  pub is : js ≡ element val others
+
+pub one-of : {m : List ℕ} {d n i : ℕ} {js : Elements} → ElementsAt m d n i js → OneElement m d n i js
+one-of h = let x = at.element-here (h .here) in record { val = x .first; others = x .others; is = x .is }
+
+pub no-element-left : {m : List ℕ} {d n i : ℕ} {js : Elements} → ElementsAt m d n i js → n ≡ 0 → ⊥
+no-element-left h e = let x = at.element-here (h .here) in omega (arith, x .count)
+
+-- brackets need depth
+module _ (m : List ℕ) (d i : ℕ) where
+  depth-of : (j : Json) (r s : List ℕ) → at.Shape d j r s → d ≡ 0 → (j ≡ scalar → ⊥) → ((t : List ℕ) → j ≡ str t → ⊥) → ⊥
+  depth-of j r s (text-shape t u e q f) z a b = b t q
+  depth-of j r s (array-shape p u e q f) z a b = omega arith
+  depth-of j r s (object-shape p u e q f) z a b = omega arith
+  depth-of j r s (scalar-shape c u e n1 n2 n3 k q) z a b = a (sym q)
+
+  pub array-depth : (js : Elements) → Stands m d i (arr js) → d ≡ 0 → ⊥
+  array-depth js h z = depth-of (arr js) (h .here .rest) (drop i m) (at.shape d (arr js) (h .here .rest) (drop i m) (h .here .reads)) z (λ e. let o : _≡_ {A = ℕ} 0 1 = cc in omega arith) (λ t e. let o : _≡_ {A = ℕ} 0 1 = cc in omega arith)
+
+  pub object-depth : (ms : Members) → Stands m d i (obj ms) → d ≡ 0 → ⊥
+  object-depth ms h z = depth-of (obj ms) (h .here .rest) (drop i m) (at.shape d (obj ms) (h .here .rest) (drop i m) (h .here .reads)) z (λ e. let o : _≡_ {A = ℕ} 0 1 = cc in omega arith) (λ t e. let o : _≡_ {A = ℕ} 0 1 = cc in omega arith)
+
+-- the kind of a value
+abbrev pub ownKind : json.Kind → Kind
+ownKind aScalar = Scalar
+ownKind aString = String
+ownKind anArray = Array
+ownKind anObject = Object
+
+own-is : (j : Json) → ownKind (at.kindOf j) ≡ kindOf j
+unfolding at.kindOf
+own-is scalar = refl
+own-is (str s) = refl
+own-is (arr js) = refl
+own-is (obj ms) = refl
+
+module _ (m : List ℕ) (i : ℕ) (r : kind.Kind) (e : cursors.kindOf r ≡ kindAt (drop i m)) where
+  pub kind-arm : (x : json.Kind) → cursors.kindOf r ≡ some x → (d : ℕ) (j : Json) → Stands m d i j → ownKind x ≡ kindOf j
+  kind-arm x f d j h = let g = at.kind-here (h .here) in let y : x ≡ at.kindOf j = cc in ap ownKind y ∙ own-is j
+
+  pub kind-none : cursors.kindOf r ≡ none → (d : ℕ) (j : Json) → Stands m d i j → Scalar ≡ kindOf j
+  kind-none f d j h = none-of (let g = at.kind-here (h .here) in let z : _≡_ {A = ℕ} 0 1 = cc in omega arith)
+
+-- the text of a string
+module _ {m : List ℕ} {d i : ℕ} {s : List ℕ} (h : Stands m d i (str s)) where
+  pub text-short : length s ≤ 1024
+  text-short = quoted-sound (drop i m) s (h .here .rest) (at.text-here (h .here)) .fits
+
+  pub text-target : (w w′ : List ℕ) (r : TextAt) (t : List ℕ) → 1024 ≤ length w → told m w′ r ≡ textAt (drop i m) w → t ≡ orEmpty (textOf m w′ r) → t ≡ s
+  text-target w w′ r t l e f = f ∙ ap orEmpty (ap (λ x. x .text) e ∙ at.text-told (drop i m) w s (h .here .rest) l (at.text-here (h .here)))
+
+-- a key's name is a string too
+pub name-stands : (m : List ℕ) (d i : ℕ) (k s : List ℕ) → quoted (drop i m) ≡ got k s → Stands m d i (str k)
+name-stands m d i k s h = record { here = record { rest = s; reads = go (drop i m) d h } }
+  where
+    by : (a o : List ℕ → Read Json) (t : List ℕ) → quoted t ≡ got k s → valueBy a o t ≡ got (str k) s
+    by a o [] h = unfold quoted in none-of (let o : _≡_ {A = ℕ} 0 1 = cc in omega arith)
+    by a o (b ∷ t) h = first (eqb b 34) refl
+      where
+        first : (p : Bool) → eqb b 34 ≡ p → valueBy a o (b ∷ t) ≡ got (str k) s
+        first true e = unfold valueBy in rw (e, h)
+        first false e = none-of (unfold quoted in (let g = rw e at h in let o : _≡_ {A = ℕ} 0 1 = cc in omega arith))
+
+    go : (t : List ℕ) (d : ℕ) → quoted t ≡ got k s → value d t ≡ got (str k) s
+    go t zero h = unfold value in by _ _ t h
+    go t (suc d) h = unfold value in by _ _ t h
+
+pub name-equal : (m key : List ℕ) (i : ℕ) (b : Bool) → b ≡ nameIs key (drop i m) → (t s : List ℕ) → quoted (drop i m) ≡ got t s → b ≡ equal t key
+unfolding nameIs isText
+name-equal m key i b e t s h = e ∙ rw h
+
+pub equal-sym : (a b : List ℕ) → equal a b ≡ equal b a
+unfolding equal
+equal-sym [] [] = refl
+equal-sym [] (y ∷ b) = refl
+equal-sym (x ∷ a) [] = refl
+equal-sym (x ∷ a) (y ∷ b) = go (eqb x y) refl (equal-sym a b)
+  where
+    go : (p : Bool) → eqb x y ≡ p → equal a b ≡ equal b a → eqb x y && equal a b ≡ eqb y x && equal b a
+    go true e g = rw (e, eq-eqb y x (sym (eqb-true x y e))) g
+    go false e g = rw (e, ne-eqb y x (λ q. eqb-false x y e (sym q)))

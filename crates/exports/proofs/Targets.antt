@@ -1,0 +1,148 @@
+-- What a target gives.
+use mathlib.Core.Path.{_≡_, refl, sym, _∙_, ap}
+use mathlib.Core.Bool.{Bool, true, false, _||_}
+use mathlib.Core.List.{List, [], _∷_, _++_}
+use mathlib.Core.Option.{Option, none, some}
+use Prim.Native.Nat.{ℕ, suc, _+_, _<_, _≤_}
+use native.Mathlib.Omega.{arith}
+use lib.ListN.{length, take, length-append}
+use lib.Dec.{leb, ltb}
+use borrow.Author.Tests.{leb-true, leb-false, le-leb, lt-leb, lt-ltb, le-ltb}
+use Rattle.definition.specs.Text.{text, if_then_else_, star, contains, endsWith, replace}
+use Rattle.definition.specs.Path.{Built, built, tooLong, andPath, limited, addExtension, normalizeWith, isInvalidExportsTarget}
+use Rattle.definition.specs.Exports as exports
+use Rattle.definition.specs.Exports.{Request, found, failed, overlong, Target, target, directoryError, targetPath, invalidTarget, outcomeOf, normalizeStringTarget}
+use Rattle.path.specs.declared.PathBuf.{PathBuf}
+use Rattle.path.specs.Meaning.{pathAt, pathOf}
+use Rattle.path.proofs.Steps.{at-fits, at-long}
+use Rattle.exports.specs.declared.Context.{Context}
+use Rattle.exports.specs.declared.Form.{Form}
+use Rattle.exports.specs.declared.Form.the-variants.{Plain, Starred, Folder}
+use Rattle.exports.specs.declared.Outcome.{Outcome}
+use Rattle.exports.specs.declared.Outcome.the-variants.{InvalidTarget, OverLong, ConfigDirectory}
+use Rattle.exports.specs.declared.Answer.{Answer}
+use Rattle.exports.specs.Answers.{pathText, outcomeIn, answerOf, resolved, Formed, Asked}
+
+clash : {P : Type 0} {x : List ℕ} → built x ≡ tooLong → P
+clash e = absurd (let z : _≡_ {A = ℕ} 0 1 = cc in omega arith)
+
+-- an answer without a path
+pub outcome-is : (q : Request) (r : Answer) (c : Context) (o : Outcome) → (r .context ≡ c) × (r .outcome ≡ o) → answerOf q r ≡ resolved c (outcomeIn (q .packageURL) (q .key) (q .matched) o (pathText (r .path)))
+outcome-is q r c o e =
+    ap (λ x. resolved x (outcomeIn (q .packageURL) (q .key) (q .matched) (r .outcome) (pathText (r .path)))) (e .0)
+    ∙ ap (λ x. resolved c (outcomeIn (q .packageURL) (q .key) (q .matched) x (pathText (r .path)))) (e .1)
+
+-- a text under the limit
+limited-fits : (t : List ℕ) → length t ≤ 2048 → limited t ≡ built t
+unfolding limited
+limited-fits t h = rw (le-leb (length t) 2048 h)
+
+limited-over : (t : List ℕ) → 2048 < length t → limited t ≡ tooLong
+unfolding limited
+limited-over t h = rw (lt-leb (length t) 2048 h)
+
+limited-text : (t u : List ℕ) → limited t ≡ built u → u ≡ t
+limited-text t u e = go (leb (length t) 2048) refl
+  where
+    go : (b : Bool) → leb (length t) 2048 ≡ b → u ≡ t
+    go true h = let f = limited-fits t (leb-true _ _ h) in cc
+    go false h = let f = limited-over t (leb-false _ _ h) in clash (sym e ∙ f)
+
+limited-long : (t : List ℕ) → limited t ≡ tooLong → 2048 < length t
+limited-long t e = go (leb (length t) 2048) refl
+  where
+    go : (b : Bool) → leb (length t) 2048 ≡ b → 2048 < length t
+    go true h = clash (sym (limited-fits t (leb-true _ _ h)) ∙ e)
+    go false h = leb-false _ _ h
+
+-- a path of at most 2,048 bytes has its text
+module _ (p : PathBuf) (x : Built) (e : pathOf p ≡ x) where
+  pub text-of : p .len ≤ 2048 → x ≡ built (pathText p)
+  text-of h = sym e ∙ at-fits (p .bytes) (p .len) h
+
+  pub no-text : 2048 < p .len → x ≡ tooLong
+  no-text h = sym e ∙ at-long (p .bytes) (p .len) h
+
+pub path-text : (p : PathBuf) (t : List ℕ) → pathOf p ≡ limited t → length t ≤ 2048 → pathText p ≡ t
+path-text p t e l = go (leb (p .len) 2048) refl
+  where
+    go : (b : Bool) → leb (p .len) 2048 ≡ b → pathText p ≡ t
+    go true h = limited-text t (pathText p) (text-of p (limited t) e (leb-true _ _ h))
+    go false h = clash (sym (limited-fits t l) ∙ no-text p (limited t) e (leb-false _ _ h))
+
+-- a target
+module _ (q : Request) (t : List ℕ) where
+  pub target-over : 2048 < length t → overlong ≡ targetPath q (target t)
+  unfolding targetPath
+  target-over h = rw (lt-ltb 2048 (length t) h)
+
+  module _ (h : length t ≤ 2048) where
+    invalid-is : isInvalidExportsTarget t ≡ true → invalidTarget q t ≡ targetPath q (target t)
+    unfolding targetPath
+    invalid-is i = rw (le-ltb 2048 (length t) h, i)
+
+    pub target-invalid : isInvalidExportsTarget t ≡ true → (p : PathBuf) → pathOf p ≡ limited t → outcomeIn (q .packageURL) (q .key) (q .matched) InvalidTarget (pathText p) ≡ targetPath q (target t)
+    unfolding invalidTarget
+    target-invalid i p e = ap (λ u. invalidTarget q u) (path-text p t e h) ∙ invalid-is i
+
+    module _ (i : isInvalidExportsTarget t ≡ false) (url : List ℕ) (u : q .packageURL ≡ url) (p : PathBuf) (e : pathOf p ≡ normalizeWith url t) where
+      path-is : outcomeOf (normalizeWith url t) ≡ targetPath q (target t)
+      unfolding targetPath
+      path-is = rw (le-ltb 2048 (length t) h, i, u)
+
+      pub path-over : 2048 < p .len → overlong ≡ targetPath q (target t)
+      unfolding outcomeOf
+      path-over l = sym (ap outcomeOf (no-text p (normalizeWith url t) e l)) ∙ path-is
+
+      pub path-found : p .len ≤ 2048 → found (pathText p) ≡ targetPath q (target t)
+      unfolding outcomeOf
+      path-found l = sym (ap outcomeOf (text-of p (normalizeWith url t) e l)) ∙ path-is
+
+-- a target that was built
+module _ (q : Request) (x : List ℕ) (p : PathBuf) (e : pathOf p ≡ limited x) where
+  pub built-over : 2048 < p .len → overlong ≡ targetPath q (target x)
+  built-over l = target-over q x (limited-long x (no-text p (limited x) e l))
+
+  pub built-text : p .len ≤ 2048 → (c : Context) (s : List ℕ) → s ≡ pathText p → resolved c (targetPath q (target s)) ≡ resolved c (targetPath q (target x))
+  built-text l c s f = ap (λ y. resolved c (targetPath q (target y))) (f ∙ limited-text x (pathText p) (text-of p (limited x) e l))
+
+pub appended : (t m : List ℕ) → andPath (limited t) (λ p. addExtension p m) ≡ limited (t ++ m)
+unfolding addExtension
+appended t m = go (leb (length t) 2048) refl
+  where
+    go : (b : Bool) → leb (length t) 2048 ≡ b → andPath (limited t) (λ p. limited (p ++ m)) ≡ limited (t ++ m)
+    go true h = ap (λ b. andPath b (λ p. limited (p ++ m))) (limited-fits t (leb-true _ _ h))
+    go false h =
+        let l : 2048 < length t = leb-false _ _ h in
+        ap (λ b. andPath b (λ p. limited (p ++ m))) (limited-over t l) ∙ sym (limited-over (t ++ m) (omega (arith, length-append t m)))
+
+-- `normalize_string_target`
+module _ {q : Request} {url : List ℕ} {form : Form} {pattern : List ℕ} (a : Asked q url form pattern) (t : List ℕ) where
+  pub plain-target : form ≡ Plain → target t ≡ normalizeStringTarget (q .key) t (q .matched)
+  unfolding normalizeStringTarget
+  plain-target e = rw (rw e at (a .formed))
+
+  pub starred-target : form ≡ Starred → target (replace star pattern t) ≡ normalizeStringTarget (q .key) t (q .matched)
+  unfolding normalizeStringTarget
+  starred-target e = let f : Formed q Starred pattern = rw e at (a .formed) in rw (f .0, f .1)
+
+  module _ (e : form ≡ Folder) where
+    folder : Formed q Folder pattern
+    folder = rw e at (a .formed)
+
+    pub folder-star : contains star t ≡ true → target (replace star pattern t) ≡ normalizeStringTarget (q .key) t (q .matched)
+    unfolding normalizeStringTarget
+    folder-star h = rw (folder .0, folder .1, h)
+
+    module _ (h : contains star t ≡ false) where
+      pub folder-both : endsWith (text "/") t ≡ true → target (t ++ pattern) ≡ normalizeStringTarget (q .key) t (q .matched)
+      unfolding normalizeStringTarget
+      folder-both g = rw (folder .0, folder .1, folder .2, h, g)
+
+      pub folder-error : endsWith (text "/") t ≡ false → directoryError ≡ normalizeStringTarget (q .key) t (q .matched)
+      unfolding normalizeStringTarget
+      folder-error g = rw (folder .0, folder .1, folder .2, h, g)
+
+pub directory-is : (q : Request) (t : List ℕ) → outcomeIn (q .packageURL) (q .key) (q .matched) ConfigDirectory t ≡ targetPath q directoryError
+unfolding targetPath
+directory-is q t = refl

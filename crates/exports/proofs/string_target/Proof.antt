@@ -1,0 +1,20 @@
+use borrow.Author.Needs.{needs}
+use mathlib.Core.Path.{_≡_, sym, _∙_, ap}
+use lib.ListN.{length}
+use Prim.Native.Nat.{_≤_}
+use Rattle.definition.specs.Specifier.{parseSpecifier}
+use Rattle.definition.specs.Exports.{stringTarget}
+use Rattle.exports.specs.Contexts.{contextOf}
+use Rattle.exports.proofs.Places.{text-short, text-target}
+use Rattle.exports.proofs.string_target.Statement.{statement}
+use Rattle.exports.proofs.string_target.Tie as tie
+
+pub string-target-spec : {M : Type 1} → statement M
+string-target-spec =
+    tie.close
+    (tie.spec
+    (λ c κs. search needs)
+    (λ c κs. search needs)
+    (λ c κs. search needs)
+    (λ c. search needs)
+    (λ c. λ q d s a h. let e = text-target h (c .before .before .before .before .before .before .before .before .before .before .before .args .work .now) _ (c .before .before .before .before .before .read-text .result) _ (c .before .before .before .before .before .before .before .before .before .before .before .pre) (c .before .before .before .before .before .read-text .ensures) (c .before .text-at .ensures) in c .text-target .ensures q a (rw e (text-short h)) ∙ ap (λ t. stringTarget q (parseSpecifier t) t (contextOf (c .before .before .before .before .before .before .before .before .before .before .before .args .c))) e))

@@ -1,0 +1,107 @@
+-- What the answers of a resolution mean.
+use mathlib.Core.Path.{_≡_}
+use Prim.Native.Nat.{ℕ}
+use mathlib.Core.Bool.{Bool, true, false}
+use mathlib.Core.List.{List}
+use mathlib.Core.Option.{Option, none, some}
+use lib.ListN.{take}
+use Rattle.definition.specs.Text.{text, star, contains, endsWith}
+use Rattle.definition.specs.Path.{manifestOf}
+use Rattle.definition.specs.Exports as exports
+use Rattle.definition.specs.Exports.{Request, found, nothing, failed, overlong, InvalidPackageTarget, InvalidPackageConfig, InvalidPackageConfigDirectory, pathNotExported, orDot, PACKAGE-TARGET-RESOLVE}
+use Rattle.definition.specs.Json.{Json}
+use Rattle.definition.specs.Settings.{textsOf}
+use Rattle.exports.specs.Places.{Stands}
+use Rattle.package_json.specs.declared.Cursor.{Cursor}
+use Rattle.package_json.specs.declared.Cursor.the-variants.{At, Nothing as Done}
+use Rattle.path.specs.declared.PathBuf.{PathBuf}
+use Rattle.exports.specs.declared.Context.{Context}
+use Rattle.exports.specs.declared.Form.{Form}
+use Rattle.exports.specs.declared.Form.the-variants.{Plain, Starred, Folder}
+use Rattle.exports.specs.declared.Outcome.{Outcome}
+use Rattle.exports.specs.declared.Outcome.the-variants.{Found, Nothing, Empty, InvalidTarget, NotExportedMatch, NotExported, ConfigMixed, ConfigDirectory, OverLong}
+use Rattle.exports.specs.declared.Answer.{Answer}
+use Rattle.exports.specs.Contexts.{contextOf}
+
+-- the text of a path that is not over-long
+abbrev pub pathText : PathBuf → List ℕ
+pathText p = take (p .len) (p .bytes)
+
+-- an outcome for a package's directory, the key that led to the target and the pattern match; t is the path, or the target that a failure speaks of
+abbrev pub outcomeIn : (url key : List ℕ) → Option (List ℕ) → Outcome → (t : List ℕ) → exports.Outcome
+outcomeIn url key matched Found t = found t
+outcomeIn url key matched Nothing t = nothing
+outcomeIn url key matched Empty t = failed (exports.Empty t)
+outcomeIn url key matched InvalidTarget t = failed (InvalidPackageTarget t key (manifestOf url))
+outcomeIn url key matched NotExportedMatch t = pathNotExported (orDot matched) url
+outcomeIn url key matched NotExported t = pathNotExported key url
+outcomeIn url key matched ConfigMixed t = failed (InvalidPackageConfig (manifestOf url))
+outcomeIn url key matched ConfigDirectory t = failed (InvalidPackageConfigDirectory (manifestOf url))
+outcomeIn url key matched OverLong t = overlong
+
+abbrev pub answerOf : Request → Answer → exports.Resolved
+answerOf q r =
+    record {
+      context = contextOf (r .context);
+      outcome = outcomeIn (q .packageURL) (q .key) (q .matched) (r .outcome) (pathText (r .path));
+    }
+
+abbrev pub resolved : Context → exports.Outcome → exports.Resolved
+resolved c o = record { context = contextOf c; outcome = o }
+
+-- a request, as far as it decides what a target gives
+abbrev pub Formed : Request → Form → (pattern : List ℕ) → Type 0
+Formed q Plain p = q .matched ≡ none
+Formed q Starred p = (q .matched ≡ some p) × (contains star (q .key) ≡ true)
+Formed q Folder p = (q .matched ≡ some p) × (contains star (q .key) ≡ false) × (endsWith (text "/") (q .key) ≡ true)
+
+pub record Asked (q : Request) (url : List ℕ) (form : Form) (pattern : List ℕ) : Type 0 where
+  pub directory : q .packageURL ≡ url
+  pub formed : Formed q form pattern
+
+-- the same with the conditions of the settings
+pub record Requested (q : Request) (settings url : List ℕ) (form : Form) (pattern : List ℕ) : Type 0 where
+  pub asked : Asked q url form pattern
+  pub conditions : q .conditions ≡ textsOf settings 0
+
+-- a target of the manifest m was resolved
+pub record Resolves (m : List ℕ) (at depth : ℕ) (settings url : List ℕ) (form : Form) (pattern : List ℕ) (c : Context) (r : Answer) : Type 0 where
+  pub is : (q : Request) → Requested q settings url form pattern → (j : Json) → Stands m depth at j → answerOf q r ≡ PACKAGE-TARGET-RESOLVE q j (contextOf c)
+
+-- which answers let the next condition, or the next element, be tried
+abbrev pub isNothing : Outcome → Bool
+isNothing Found = false
+isNothing Nothing = true
+isNothing Empty = false
+isNothing InvalidTarget = false
+isNothing NotExportedMatch = false
+isNothing NotExported = false
+isNothing ConfigMixed = false
+isNothing ConfigDirectory = false
+isNothing OverLong = false
+
+abbrev pub isFinal : Outcome → Bool
+isFinal Found = true
+isFinal Nothing = false
+isFinal Empty = false
+isFinal InvalidTarget = false
+isFinal NotExportedMatch = false
+isFinal NotExported = false
+isFinal ConfigMixed = false
+isFinal ConfigDirectory = false
+isFinal OverLong = true
+
+abbrev pub isSome : Cursor → Bool
+isSome Done = false
+isSome (At i) = true
+
+abbrev pub isPassed : Outcome → Cursor → Bool
+isPassed Found c = false
+isPassed Nothing c = true
+isPassed Empty c = isSome c
+isPassed InvalidTarget c = isSome c
+isPassed NotExportedMatch c = isSome c
+isPassed NotExported c = isSome c
+isPassed ConfigMixed c = isSome c
+isPassed ConfigDirectory c = isSome c
+isPassed OverLong c = false

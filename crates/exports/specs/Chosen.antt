@@ -1,0 +1,91 @@
+-- What the code finds out of the keys of an object, and how an exports field was resolved.
+use mathlib.Core.Path.{_≡_}
+use Prim.Native.Nat.{ℕ}
+use mathlib.Core.Bool.{Bool, true, false, not, _||_}
+use mathlib.Core.List.{List, []}
+use mathlib.Core.Option.{Option, none, some}
+use lib.ListN.{drop, take}
+use Rattle.definition.specs.Text.{text}
+use Rattle.definition.specs.Json.{Json, scalar, str, arr, obj, Read, got, fault, quoted}
+use Rattle.definition.specs.Exports as exports
+use Rattle.definition.specs.Exports.{Entry, anyKey, isDotKey, isSubpathKey, patternMatch, Request, orGoOn, keyResolve, pathNotExported}
+use Rattle.exports.specs.Places.{Stands}
+use Rattle.exports.specs.declared.Answer.{Answer}
+use Rattle.exports.specs.declared.Match.{Match}
+use Rattle.exports.specs.declared.Form.{Form}
+use Rattle.exports.specs.declared.Form.the-variants.{Starred, Folder}
+use Rattle.exports.specs.declared.KeyMarks.{KeyMarks}
+use Rattle.exports.specs.declared.Best.{Best}
+use Rattle.exports.specs.declared.Key.{Key}
+use Rattle.exports.specs.declared.Key.the-variants.{Dot, Subpath, At}
+use Rattle.exports.specs.declared.Resolved.{Resolved}
+use Rattle.exports.specs.Keys.{rankOf, matchOf}
+use Rattle.exports.specs.Contexts.{contextOf}
+use Rattle.exports.specs.Answers.{pathText, outcomeIn}
+
+-- what one key begins with, and the keys of some members
+abbrev pub aKey : List ℕ → KeyMarks
+aKey k = record { dot = isDotKey k; other = not (isDotKey k); subpath = isSubpathKey k }
+
+abbrev pub joinedKeys : KeyMarks → KeyMarks → KeyMarks
+joinedKeys a b = record { dot = a .dot || b .dot; other = a .other || b .other; subpath = a .subpath || b .subpath }
+
+abbrev pub keysOf : List Entry → KeyMarks
+keysOf es = record { dot = anyKey isDotKey es; other = anyKey (λ k. not (isDotKey k)) es; subpath = anyKey isSubpathKey es }
+
+-- the best entry of a manifest so far, for a match key
+pub record Chosen (m mk : List ℕ) (b : Best) (e : Entry) : Type 0 where
+  pub found : b .found ≡ true
+  pub ranked : b .rank ≡ rankOf (e .key)
+  pub behind : List ℕ
+  pub named : quoted (drop (b .key) m) ≡ got (e .key) behind
+  pub stands : Stands m 14 (b .value) (e .target)
+  pub matched : patternMatch mk (e .key) ≡ some (take (b .len) (drop (b .start) mk))
+
+abbrev pub BestOf : (m mk : List ℕ) → Best → Option Entry → Type 0
+BestOf m mk b none = (b .found ≡ false) × (b .rank ≡ rankOf [])
+BestOf m mk b (some e) = Chosen m mk b e
+
+abbrev pub formOf : Bool → Form
+formOf true = Starred
+formOf false = Folder
+
+-- an answer with the key that led to the target and the match
+abbrev pub withKey : Answer → Key → Match → Resolved
+withKey a k x = record { context = a .context; path = a .path; outcome = a .outcome; key = k; matched = x }
+
+-- the text of the key
+abbrev pub readText : Read (List ℕ) → List ℕ
+readText (got k s) = k
+readText (fault f) = []
+
+abbrev pub keyText : (m subpath : List ℕ) → Key → List ℕ
+keyText m subpath Dot = text "."
+keyText m subpath Subpath = subpath
+keyText m subpath (At i) = readText (quoted (drop i m))
+
+abbrev pub resolvedOf : (m url subpath : List ℕ) → Resolved → exports.Resolved
+resolvedOf m url subpath r =
+    record {
+      context = contextOf (r .context);
+      outcome = outcomeIn url (keyText m subpath (r .key)) (matchOf subpath (r .matched)) (r .outcome) (pathText (r .path));
+    }
+
+-- no query and no fragment yet
+abbrev pub fresh : exports.Context
+fresh = record { query = []; fragment = [] }
+
+-- the request for the main export
+abbrev pub dotRequest : (url : List ℕ) → List (List ℕ) → Request
+dotRequest url conditions = record { packageURL = url; key = text "."; matched = none; conditions = conditions }
+
+-- the last two steps of `PACKAGE_EXPORTS_RESOLVE`
+abbrev pub keysOrNot : (url : List ℕ) → List (List ℕ) → (subpath : List ℕ) → Json → exports.Context → exports.Resolved
+keysOrNot url conditions subpath j c = orGoOn (keyResolve url conditions subpath j c) λ e. record { context = e; outcome = pathNotExported subpath url }
+
+-- a string or an array
+abbrev pub IsWhole : Json → Type 0
+IsWhole scalar = ⊥
+IsWhole (str s) = Unit {0}
+IsWhole (arr js) = Unit {0}
+IsWhole (obj ms) = ⊥

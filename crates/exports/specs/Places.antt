@@ -1,0 +1,42 @@
+-- Where a value, the members of an object and the elements of an array stand in a manifest m: at a place, or at a cursor.
+use mathlib.Core.Path.{_≡_}
+use Prim.Native.Nat.{ℕ}
+use mathlib.Core.List.{List}
+use mathlib.Core.Option.{Option, none, some}
+use lib.ListN.{drop}
+use Rattle.definition.specs.Json.{Json, scalar, str, arr, obj, Elements, noElement, Members, noMember}
+use Rattle.definition.specs.JsonAtLaws as at
+use Rattle.package_json.specs.declared.Cursor.{Cursor}
+use Rattle.package_json.specs.declared.Cursor.the-variants.{At, Nothing}
+use Rattle.exports.specs.declared.Kind.{Kind}
+use Rattle.exports.specs.declared.Kind.the-variants.{Scalar, String, Array, Object}
+
+pub record Stands (m : List ℕ) (d i : ℕ) (j : Json) : Type 0 where
+  pub here : at.Stands d (drop i m) j
+
+pub record MembersAt (m : List ℕ) (d n i : ℕ) (ms : Members) : Type 0 where
+  pub here : at.MembersAt d n (drop i m) ms
+
+pub record ElementsAt (m : List ℕ) (d n i : ℕ) (js : Elements) : Type 0 where
+  pub here : at.ElementsAt d n (drop i m) js
+
+abbrev pub MembersFrom : List ℕ → ℕ → ℕ → Members → Cursor → Type 0
+MembersFrom m d n ms (At i) = MembersAt m d n i ms
+MembersFrom m d n ms Nothing = ms ≡ noMember
+
+abbrev pub ElementsFrom : List ℕ → ℕ → ℕ → Elements → Cursor → Type 0
+ElementsFrom m d n js (At i) = ElementsAt m d n i js
+ElementsFrom m d n js Nothing = js ≡ noElement
+
+abbrev pub kindOf : Json → Kind
+kindOf scalar = Scalar
+kindOf (str s) = String
+kindOf (arr js) = Array
+kindOf (obj ms) = Object
+
+-- a member's value was looked for
+abbrev pub Finds : List ℕ → ℕ → Option Json → Cursor → Type 0
+Finds m d (some j) (At i) = Stands m d i j
+Finds m d (some j) Nothing = ⊥
+Finds m d none (At i) = ⊥
+Finds m d none Nothing = Unit {0}

@@ -1,0 +1,209 @@
+-- The loops over components: one part between slashes, and what is left behind the next slash.
+use mathlib.Core.Path.{_≡_, refl, sym, _∙_}
+use Prim.Native.Nat.{ℕ, _+_, _-_, _≤_, _<_}
+use native.Mathlib.Omega.{arith}
+use mathlib.Core.Bool.{Bool, true, false, not, _||_, false≢true}
+use mathlib.Core.List.{List, [], _∷_, _++_}
+use lib.ListN.{length, drop, take, getD, length-take}
+use lib.Seq.{take-suc}
+use lib.Dec.{eqb, leb, ltb}
+use borrow.Author.Tests.{ltb-true, ltb-false, leb-true, leb-false}
+use Rattle.definition.specs.Text.{text, slash, if_then_else_, equal, startsWith, equalIgnoringCase, before, text-computes}
+use Rattle.definition.specs.TextLaws.{equal-true, startsWith-length}
+use Rattle.definition.specs.TextSteps.{first-inside}
+use Rattle.definition.specs.Path.{parentDir, normal, component, push, parent, pops, Built, built, tooLong, andPath, limited, pushComponent, pushAll, pushRelative, normalizeRelative, invalidComponent, anyInvalid}
+use Rattle.definition.specs.PathLaws.{limited-fits, component-up, parts, parts-more, parts-last, parts-rooted, rooted, not-rooted, anyInvalid-append, pushAll-append, pushRelative-append, rootOf, relative-parts, parent-short, room, room-high, relative-length}
+use Rattle.definition.specs.PathSteps.{starts-with, starts-empty}
+use Rattle.path.specs.Meaning.{pathAt}
+use Rattle.path.proofs.Steps.{at-fits, at-long}
+
+-- `is_invalid_part`
+pub invalid-up : (s : List ℕ) → equal s (text "..") ≡ true → anyInvalid (component s) ≡ true
+unfolding anyInvalid invalidComponent
+invalid-up s h = rw (component-up s h)
+
+or-false : (a : Bool) → a || false ≡ a
+or-false true = refl
+or-false false = refl
+
+pub invalid-name : (s : List ℕ) → equal s (text "..") ≡ false → anyInvalid (component s) ≡ equalIgnoringCase s (text "node_modules")
+unfolding component anyInvalid invalidComponent
+invalid-name s h = go (equal s []) (equal s (text ".")) refl refl
+  where
+    go : (u v : Bool) → equal s [] ≡ u → equal s (text ".") ≡ v → anyInvalid (component s) ≡ equalIgnoringCase s (text "node_modules")
+    go true v e f = rw (equal-true s [] e) (unfold text-computes in refl)
+    go false true e f = rw (equal-true s (text ".") f) (unfold text-computes in refl)
+    go false false e f = rw (e, f, h) (or-false (equalIgnoringCase s (text "node_modules")))
+
+-- `is_invalid_exports_target`: the next slash is at e
+module _ (t : List ℕ) (at e : ℕ) (h : e ≡ at + length (before slash (drop at t))) where
+  pub invalid-here : anyInvalid (component (take (e - at) (drop at t))) ≡ true → anyInvalid (parts (drop at t)) ≡ true
+  invalid-here k = go (ltb e (length t)) refl
+    where
+      go : (u : Bool) → ltb e (length t) ≡ u → anyInvalid (parts (drop at t)) ≡ true
+      go true l = rw (parts-more t at e h (ltb-true _ _ l), anyInvalid-append (component (take (e - at) (drop at t))) (parts (drop (e + 1) t)), k)
+      go false l = rw (parts-last t at e h (ltb-false _ _ l)) k
+
+  module _ (k : anyInvalid (component (take (e - at) (drop at t))) ≡ false) where
+    pub invalid-last : length t ≤ e → anyInvalid (parts (drop at t)) ≡ false
+    invalid-last l = rw (parts-last t at e h l) k
+
+    pub invalid-more : e < length t → anyInvalid (parts (drop at t)) ≡ anyInvalid (parts (drop (e + 1) t))
+    invalid-more l = rw (parts-more t at e h l, anyInvalid-append (component (take (e - at) (drop at t))) (parts (drop (e + 1) t)), k)
+
+-- `push_part`
+built-all : (b : Built) → andPath b (λ p. built p) ≡ b
+built-all (built p) = refl
+built-all tooLong = refl
+
+module _ (b : List ℕ) (n : ℕ) (s : List ℕ) where
+  pub push-none : component s ≡ [] → pathAt b n ≡ andPath (pathAt b n) (λ p. pushAll (component s) p)
+  unfolding pushAll
+  push-none e = rw e (sym (built-all (pathAt b n)))
+
+  parent-fits : n ≤ 2048 → limited (parent (take n b)) ≡ built (parent (take n b))
+  parent-fits h = limited-fits (parent (take n b)) (parent-short 2048 (take n b) (omega (arith, length-take n b)) (omega arith))
+
+  pub push-up : equal s (text "..") ≡ true → andPath (pathAt b n) (λ p. built (parent p)) ≡ andPath (pathAt b n) (λ p. pushAll (component s) p)
+  unfolding pushAll pushComponent
+  push-up e = rw (component-up s e) (go (leb n 2048) refl)
+    where
+      go : (u : Bool) → leb n 2048 ≡ u → andPath (pathAt b n) (λ p. built (parent p)) ≡ andPath (pathAt b n) (λ p. pushAll (parentDir ∷ []) p)
+      go true h = rw (at-fits b n (leb-true _ _ h), parent-fits (leb-true _ _ h))
+      go false h = rw (at-long b n (leb-false _ _ h))
+
+  pub push-name : component s ≡ normal s ∷ [] → andPath (pathAt b n) (λ p. limited (push p s)) ≡ andPath (pathAt b n) (λ p. pushAll (component s) p)
+  unfolding pushAll pushComponent
+  push-name e = rw e (go (pathAt b n))
+    where
+      go : (x : Built) → andPath x (λ p. limited (push p s)) ≡ andPath x (λ p. pushAll (normal s ∷ []) p)
+      go (built p) = sym (built-all (limited (push p s)))
+      go tooLong = refl
+
+  -- `push_relative_part`: where ".." pops, it goes as `push_part`
+  pub relative-same : (equal s (text "..") ≡ true → pops (take n b) ≡ true) → andPath (pathAt b n) (λ p. pushAll (component s) p) ≡ andPath (pathAt b n) (λ p. limited (pushRelative (component s) p))
+  unfolding component pushAll pushComponent pushRelative
+  relative-same f = go (leb n 2048) refl
+    where
+      part : (u v : Bool) → n ≤ 2048 → (v ≡ true → pops (take n b) ≡ true)
+          → pushAll (if u then [] else if v then parentDir ∷ [] else normal s ∷ []) (take n b) ≡ limited (pushRelative (if u then [] else if v then parentDir ∷ [] else normal s ∷ []) (take n b))
+      part true v h f = sym (limited-fits (take n b) (omega (arith, length-take n b)))
+      part false true h f = rw (f refl) (built-all (limited (parent (take n b))))
+      part false false h f = built-all (limited (push (take n b) s))
+
+      go : (u : Bool) → leb n 2048 ≡ u → andPath (pathAt b n) (λ p. pushAll (component s) p) ≡ andPath (pathAt b n) (λ p. limited (pushRelative (component s) p))
+      go true h = rw (at-fits b n (leb-true _ _ h)) (part (equal s [] || equal s (text ".")) (equal s (text "..")) (leb-true _ _ h) f)
+      go false h = rw (at-long b n (leb-false _ _ h))
+
+  pub relative-stays : equal s (text "..") ≡ true → pops (take n b) ≡ false → andPath (pathAt b n) (λ p. limited (push p s)) ≡ andPath (pathAt b n) (λ p. limited (pushRelative (component s) p))
+  unfolding pushRelative
+  relative-stays e f = rw (component-up s e, equal-true s (text "..") e) (go (leb n 2048) refl)
+    where
+      go : (u : Bool) → leb n 2048 ≡ u → andPath (pathAt b n) (λ p. limited (push p (text ".."))) ≡ andPath (pathAt b n) (λ p. limited (pushRelative (parentDir ∷ []) p))
+      go true h = rw (at-fits b n (leb-true _ _ h), f)
+      go false h = rw (at-long b n (leb-false _ _ h))
+
+-- `push_parts`
+module _ (x y : Built) (sub : List ℕ) (at e : ℕ) (h : e ≡ at + length (before slash (drop at sub)))
+    (k : y ≡ andPath x (λ p. pushAll (component (take (e - at) (drop at sub))) p)) where
+  pub with-last : length sub ≤ e → y ≡ andPath x (λ p. pushAll (parts (drop at sub)) p)
+  with-last l = rw (parts-last sub at e h l) k
+
+  pub with-more : e < length sub → andPath y (λ p. pushAll (parts (drop (e + 1) sub)) p) ≡ andPath x (λ p. pushAll (parts (drop at sub)) p)
+  with-more l = rw (k, parts-more sub at e h l) (go x)
+    where
+      go : (x : Built) → andPath (andPath x (λ p. pushAll (component (take (e - at) (drop at sub))) p)) (λ p. pushAll (parts (drop (e + 1) sub)) p) ≡ andPath x (λ p. pushAll (component (take (e - at) (drop at sub)) ++ parts (drop (e + 1) sub)) p)
+      go (built p) = sym (pushAll-append (component (take (e - at) (drop at sub))) (parts (drop (e + 1) sub)) p)
+      go tooLong = refl
+
+-- `pops`
+pub pops-empty : (p : List ℕ) → length p ≡ 0 → pops p ≡ false
+unfolding pops equal
+pops-empty [] h = refl
+pops-empty (b ∷ p) h = absurd (let z : ⊥ = omega arith in z)
+
+pub pops-some : (p : List ℕ) → (length p ≡ 0 → ⊥) → pops p ≡ not (equal p (text "/"))
+unfolding pops
+pops-some [] h = absurd (h refl)
+pops-some (b ∷ p) h = unfold equal in refl
+
+-- `root`
+pub root-empty : (p : List ℕ) → length p ≡ 0 → p ≡ rootOf p
+unfolding rootOf startsWith
+root-empty [] h = refl
+root-empty (b ∷ p) h = absurd (let z : ⊥ = omega arith in z)
+
+module _ (p : List ℕ) (h : length p ≡ 0 → ⊥) where
+  some : 0 < length p
+  some = omega arith
+
+  pub root-slash : getD p 0 0 ≡ slash → take 1 p ≡ rootOf p
+  unfolding rootOf
+  root-slash e = rw (rooted p some e, take-suc p 0 0 some, e)
+
+  pub root-none : (getD p 0 0 ≡ slash → ⊥) → [] ≡ rootOf p
+  unfolding rootOf
+  root-none n = rw (not-rooted p some n)
+
+pub root-short : (p : List ℕ) → length (rootOf p) ≤ length p
+unfolding rootOf
+root-short p = go (startsWith (text "/") p) refl
+  where
+    go : (u : Bool) → startsWith (text "/") p ≡ u → length (if u then text "/" else []) ≤ length p
+    go true h = startsWith-length (text "/") p h
+    go false h = omega arith
+
+-- `normalize_relative`: a path x so far, of at most `at` bytes with a slash behind it, and the parts from `at` on left
+pub record Going (b : Built) (p : List ℕ) (at : ℕ) : Type 0 where
+  pub so : List ℕ
+  pub is : b ≡ built so
+  pub short : room so ≤ at
+  pub rest : pushRelative (parts (drop at p)) so ≡ normalizeRelative p
+
+pub going-start : (b : Built) (p : List ℕ) (at : ℕ) → b ≡ limited (rootOf p) → at ≡ length (rootOf p) → Going b p at
+going-start b p at e f = rw f (go (startsWith (text "/") p) p refl e)
+  where
+    go : (u : Bool) (p : List ℕ) → startsWith (text "/") p ≡ u → b ≡ limited (rootOf p) → Going b p (length (rootOf p))
+    go false p h e =
+        let r : rootOf p ≡ [] = unfold rootOf in (rw h) in
+        rw r record {
+          so = [];
+          is = e ∙ rw r (limited-fits [] (omega arith));
+          short = unfold room text-computes in (omega arith);
+          rest = sym (relative-parts p ∙ rw r);
+        }
+    go true [] h e = absurd (false≢true (sym (starts-empty slash [] refl) ∙ h))
+    go true (c ∷ s) h e =
+        let r : rootOf (c ∷ s) ≡ text "/" = unfold rootOf in (rw h) in
+        let k : eqb slash c ≡ true = sym (starts-with slash (c ∷ s) (omega arith)) ∙ h in
+        rw r record {
+          so = text "/";
+          is = e ∙ rw r (limited-fits (text "/") (omega arith));
+          short = unfold room text-computes in (omega arith);
+          rest = sym (relative-parts (c ∷ s) ∙ rw (r, parts-rooted c s k));
+        }
+
+module _ (x y : Built) (p : List ℕ) (at e : ℕ) (h : e ≡ at + length (before slash (drop at p))) (i : at ≤ length p) (l : length p ≤ 2048)
+    (g : Going x p at) (k : y ≡ andPath x (λ q. limited (pushRelative (component (take (e - at) (drop at p))) q))) where
+  abbrev part : List ℕ
+  part = take (e - at) (drop at p)
+
+  abbrev next : List ℕ
+  next = pushRelative (component part) (g .so)
+
+  next-length : length next ≤ e
+  next-length = let s = g .short in omega (arith, relative-length (g .so) part, length-take (e - at) (drop at p))
+
+  next-is : y ≡ built next
+  next-is = k ∙ rw (g .is) (limited-fits next (let s = next-length in omega (arith, first-inside slash p at e h i)))
+
+  pub going-more : e < length p → Going y p (e + 1)
+  going-more m = record {
+    so = next;
+    is = next-is;
+    short = (let s = next-length in omega (arith, room-high next));
+    rest = sym (pushRelative-append (component part) (parts (drop (e + 1) p)) (g .so)) ∙ rw (← parts-more p at e h m) (g .rest);
+  }
+
+  pub going-last : length p ≤ e → y ≡ andPath (limited p) (λ q. built (normalizeRelative q))
+  going-last m = next-is ∙ rw (limited-fits p l, ← g .rest, parts-last p at e h m)

@@ -1,0 +1,220 @@
+// Runs paths with known answers through the functions of `path`, and prints for each group how many are as expected.
+// A table has a row to a line: a letter for the function, its texts and the answer, each behind a bar.
+use libc::STDOUT_FILENO;
+use path::PathBuf;
+
+// The group's name, and how many of its rows are as expected; or the number of the first that is not.
+fn report(name: &[u8], got: usize, rows: usize) {
+    io::write_all(STDOUT_FILENO, name);
+    if got == rows {
+        io::write_all(STDOUT_FILENO, b": ");
+        io::print_decimal(STDOUT_FILENO, got as u64);
+        io::write_all(STDOUT_FILENO, b" as expected\n");
+    } else {
+        io::write_all(STDOUT_FILENO, b": not as expected after row ");
+        io::print_decimal(STDOUT_FILENO, got as u64);
+        io::write_all(STDOUT_FILENO, b"\n");
+    }
+}
+
+fn cut(s: &[u8], at: usize, end: usize) -> &[u8] {
+    if at <= end {
+        if end <= s.len() {
+            return &s[at..end];
+        }
+    }
+    &s[0..0]
+}
+
+// The text behind the k-th bar of a row.
+fn field(row: &[u8], k: usize) -> &[u8] {
+    let mut at: usize = 0;
+    let mut i: usize = 0;
+    while i < k {
+        at = text::find(row, b'|', at);
+        if at < row.len() {
+            at += 1;
+        }
+        i += 1;
+    }
+    cut(row, at, text::find(row, b'|', at))
+}
+
+// A path that is not over-long and has this text.
+fn is(p: PathBuf, t: &[u8]) -> bool {
+    if p.over_long() {
+        return false;
+    }
+    let n = p.len;
+    text::equal(path::first(&p.bytes, n), t)
+}
+
+fn built(which: u8, row: &[u8]) -> bool {
+    let p = PathBuf::from(field(row, 1));
+    if which == b'+' {
+        return is(p.push(field(row, 2)), field(row, 3));
+    }
+    if which == b'-' {
+        return is(p.pop(), field(row, 2));
+    }
+    if which == b'.' {
+        return is(p.append(field(row, 2)), field(row, 3));
+    }
+    if which == b'i' {
+        return is(
+            p.append_main_file(field(row, 2), field(row, 3)),
+            field(row, 4),
+        );
+    }
+    is(p.push_manifest(), field(row, 2))
+}
+
+fn row_is(row: &[u8]) -> bool {
+    if row.len() == 0 {
+        return false;
+    }
+    let which = row[0];
+    let a = field(row, 1);
+    let b = field(row, 2);
+    if which == b'w' {
+        return is(path::normalize_with(a, b), field(row, 3));
+    }
+    if which == b'r' {
+        return is(path::normalize_relative(a), b);
+    }
+    if which == b'x' {
+        return path::is_invalid_exports_target(a) == text::equal(b, b"invalid");
+    }
+    if which == b'p' {
+        return text::equal(path::parent(a), b);
+    }
+    if which == b'n' {
+        return text::equal(path::name_of(a), b);
+    }
+    built(which, row)
+}
+
+fn rows(table: &[u8]) -> usize {
+    let mut n: usize = 0;
+    let mut at: usize = 0;
+    while at < table.len() {
+        let end = text::find(table, b'\n', at);
+        if !row_is(cut(table, at, end)) {
+            return n;
+        }
+        n += 1;
+        at = end;
+        if at < table.len() {
+            at += 1;
+        }
+    }
+    n
+}
+
+// One more where a case is as expected.
+fn tick(n: usize, ok: bool) -> usize {
+    if ok {
+        if n < 100 {
+            return n + 1;
+        }
+    }
+    n
+}
+
+fn over(p: PathBuf) -> bool {
+    p.over_long()
+}
+
+fn has(p: PathBuf, n: usize) -> bool {
+    p.len == n
+}
+
+// 2,048 bytes fit, 2,049 do not, in every function that makes a path longer.
+fn limits(a: &[u8]) -> usize {
+    let base = path::first(a, 2040);
+    let p = PathBuf::from(base);
+    let mut n: usize = 0;
+    n = tick(n, has(PathBuf::from(path::first(a, 2048)), 2048));
+    n = tick(n, over(PathBuf::from(path::first(a, 2049))));
+    n = tick(n, has(p.push(path::first(a, 7)), 2048));
+    n = tick(n, over(p.push(path::first(a, 8))));
+    n = tick(n, has(p.append(path::first(a, 8)), 2048));
+    n = tick(n, over(p.append(path::first(a, 9))));
+    n = tick(n, has(p.append_main_file(b"inde", b".js"), 2048));
+    n = tick(n, over(p.append_main_file(b"index", b".js")));
+    n = tick(n, has(path::normalize_with(base, b"./aaaaaaa"), 2048));
+    n = tick(n, over(path::normalize_with(base, b"./aaaaaaaa")));
+    n
+}
+
+// The base counts, each component counts, and an absolute subpath counts alone.
+fn more_limits(a: &[u8]) -> usize {
+    let base = path::first(a, 2040);
+    let mut n: usize = 0;
+    n = tick(n, over(path::normalize_with(base, b"aaaaaaaa/..")));
+    n = tick(n, has(path::normalize_with(base, b"aaaaaaa/../b"), 2042));
+    n = tick(
+        n,
+        has(path::normalize_with(path::first(a, 2048), b"./."), 2048),
+    );
+    n = tick(n, over(path::normalize_with(path::first(a, 2049), b"..")));
+    n = tick(n, has(path::normalize_with(path::first(a, 2049), b"/b"), 2));
+    n = tick(n, over(path::normalize_with(b"/", a)));
+    n = tick(n, has(path::normalize_relative(path::first(a, 2048)), 2048));
+    n = tick(n, over(path::normalize_relative(path::first(a, 2049))));
+    n
+}
+
+// What was over-long stays so.
+fn stays_over(p: PathBuf) -> usize {
+    let mut n: usize = 0;
+    n = tick(n, over(p.push(b"a")));
+    n = tick(n, over(p.push(b"")));
+    n = tick(n, over(p.pop()));
+    n = tick(n, over(p.append(b"")));
+    n = tick(n, over(p.append_main_file(b"", b"")));
+    n = tick(n, over(p.push_manifest()));
+    n
+}
+
+fn main() {
+    report(
+        b"path.rs",
+        rows(
+            b"x|../a.js|invalid\nx|../|invalid\nx|./a/b/../../../c.js|invalid\nx|./a/b/../../../|invalid\nx|./../../c.js|invalid\nx|./../../|invalid\nx|./a/../b/../../c.js|invalid\nx|./a/../b/../../|invalid\nx|./././../|invalid\nx|C:|\nx|/|\nr|foo/../../foo/|../foo\nr|foo/.././foo/|foo\nr|foo../../..|..\nr|jest-runner-../../|\n",
+        ),
+        15,
+    );
+    report(
+        b"01",
+        rows(
+            b"r|a/../../b|../b\nr|a/../../../b|b\nx|./a/./b.js|\nx|./a/../b|invalid\nx|./NODE_MODULES/a|invalid\n",
+        ),
+        5,
+    );
+    report(
+        b"components",
+        rows(
+            b"x||\nx|.|\nx|..|invalid\nx|./a..|\nx|./.../b|\nx|node_modules|invalid\nx|./a/Node_Modules|invalid\nx|./node_modules_|\nx|/node_modules|invalid\nx|./a//b|\nr||\nr|.|\nr|./|\nr|/|/\nr|//|/\nr|/..|/..\nr|/a/..|/\nr|/../..|/\nr|../..|\nr|../../..|..\nr|./a/./b/|a/b\nr|a//b|a/b\nr|/./a|/a\n",
+        ),
+        23,
+    );
+    report(
+        b"normalize_with",
+        rows(
+            b"w|/a|./b|/a/b\nw|/a|b|/a/b\nw|/a/b|../c|/a/c\nw|/a|../../b|/b\nw|/|..|/\nw|/|a|/a\nw|/|./a/..|/\nw|/a|.|/a\nw|/a|./|/a\nw|/a|b//c/|/a/b/c\nw|/a|b/./c|/a/b/c\nw|/a|.b|/a/.b\nw|/a|..b|/a/..b\nw|/a|/x/../y|/x/../y\nw|/a||\nw||a|a\nw|a|..|\nw|a|../b|b\n",
+        ),
+        18,
+    );
+    report(
+        b"methods",
+        rows(
+            b"+||a|a\n+|/|a|/a\n+|/a|b|/a/b\n+|/a/|b|/a/b\n+|/a||/a/\n-|/a/b|/a\n-|/a|/\n-|/|/\n-|a|\n-|a/b|a\n-||\n.|/a|.js|/a.js\n.|||\ni|/a|index|.js|/a/index.js\ni|/|index|.js|//index.js\nm|/a|/a/package.json\nm|/|/package.json\np|/a/b|/a\np|/a|/\np|/|/\np|a|\np||\nn|/a/b|b\nn|/a|a\nn|a|a\nn|/|\n",
+        ),
+        26,
+    );
+    let a = [b'a'; 2049];
+    report(b"limits", limits(&a), 10);
+    report(b"more limits", more_limits(&a), 8);
+    report(b"over-long", stays_over(PathBuf::from(&a)), 6);
+}

@@ -1,0 +1,18 @@
+use borrow.Author.Needs.{needs}
+use native.Mathlib.Omega.{arith}
+use Rattle.specifier.proofs.Parts.{to-end}
+use Rattle.definition.specs.Specifier.{packageSubpath}
+use Rattle.definition.specs.SpecifierLaws.{name-inside}
+use Rattle.specifier.proofs.package_subpath.Statement.{statement}
+use Rattle.specifier.proofs.package_subpath.Tie as tie
+
+pub package-subpath-spec : {M : Type 1} → statement M
+unfolding packageSubpath
+package-subpath-spec =
+    tie.close
+    (tie.spec
+    (λ c κs. search needs)
+    (λ c. omega (arith, c .name-end .ensures, name-inside (c .before .before .args .s .now)))
+    (λ c. omega (arith, c .name-end .ensures, name-inside (c .before .before .args .s .now)))
+    (λ c. search needs)
+    (λ c. rw (c .before .name-end .ensures) (to-end (c .before .before .before .args .s .now) _)))

@@ -1,0 +1,37 @@
+-- What the answers of the functions mean.
+use mathlib.Core.Path.{_≡_}
+use Prim.Native.Nat.{ℕ}
+use mathlib.Core.Bool.{Bool}
+use mathlib.Core.List.{List, [], _∷_}
+use mathlib.Core.Option.{Option, none, some}
+use lib.ListN.{length, drop, take}
+use Rattle.definition.specs.Text.{if_then_else_, hash, containsText}
+use Rattle.definition.specs.Path.{Built, limited}
+use Rattle.definition.specs.Specifier.{Specifier, parsed, emptySpecifier, body}
+use Rattle.path.specs.Meaning.{pathOf}
+use Rattle.specifier.specs.declared.Specifier.{Specifier as Answer}
+use Rattle.specifier.specs.declared.Stripped.{Stripped}
+use Rattle.specifier.specs.declared.Stripped.the-variants.{At, Nothing}
+
+-- the tail of a specifier
+abbrev pub tailOf : List ℕ → Stripped → Option (List ℕ)
+tailOf s (At i) = some (drop i s)
+tailOf s Nothing = none
+
+-- the fragment begins at i, and whether a "#" before it is escaped
+pub record Scanned (s : List ℕ) (i : ℕ) (escaped : Bool) : Type 0 where
+  pub place : i ≡ length (body s)
+  pub mark : escaped ≡ containsText (0 ∷ hash ∷ []) (body s)
+
+-- a parsed specifier with its path under the limit on paths, or the error that the path is empty
+pub data Parts : Type 0 where
+  parts : (path : Built) (query fragment : List ℕ) → Parts
+  noPath : Parts
+
+abbrev pub partsOf : Specifier → Parts
+partsOf (parsed p q f) = parts (limited p) q f
+partsOf emptySpecifier = noPath
+
+unfoldable pub meant : List ℕ → Answer → Parts
+meant s r =
+    if r .empty then noPath else parts (pathOf (r .path)) (drop (r .query) (take (r .fragment) s)) (drop (r .fragment) s)

@@ -1,0 +1,368 @@
+// Runs specifiers with known answers through the functions of `specifier`, and prints for each group how many are as expected.
+// A case that is not as expected is printed, and ends its group.
+use libc::STDOUT_FILENO;
+use specifier::Specifier;
+use specifier::Stripped;
+
+fn report(ok: bool, name: &[u8]) {
+    io::write_all(STDOUT_FILENO, name);
+    if ok {
+        io::write_all(STDOUT_FILENO, b" as expected\n");
+    } else {
+        io::write_all(STDOUT_FILENO, b" expected\n");
+    }
+}
+
+// Whether a case is as expected; one that is not is printed.
+fn case(ok: bool, s: &[u8]) -> bool {
+    if !ok {
+        io::write_all(STDOUT_FILENO, b"not as expected: ");
+        io::write_all(STDOUT_FILENO, s);
+        io::write_all(STDOUT_FILENO, b"\n");
+    }
+    ok
+}
+
+fn split(s: &[u8], name: &[u8], subpath: &[u8]) -> bool {
+    let a = text::equal(specifier::package_name(s), name);
+    let b = text::equal(specifier::package_subpath(s), subpath);
+    case(a && b, s)
+}
+
+fn splits() -> bool {
+    if !split(b"@a/b/c", b"@a/b", b"/c") {
+        return false;
+    }
+    if !split(b"@a", b"@a", b"") {
+        return false;
+    }
+    if !split(b"a/", b"a", b"/") {
+        return false;
+    }
+    if !split(b"", b"", b"") {
+        return false;
+    }
+    if !split(b"a", b"a", b"") {
+        return false;
+    }
+    if !split(b"a/b/c", b"a", b"/b/c") {
+        return false;
+    }
+    if !split(b"@", b"@", b"") {
+        return false;
+    }
+    if !split(b"@/", b"@/", b"") {
+        return false;
+    }
+    if !split(b"@a/b", b"@a/b", b"") {
+        return false;
+    }
+    if !split(b"@a//b", b"@a/", b"/b") {
+        return false;
+    }
+    if !split(b"/a", b"", b"/a") {
+        return false;
+    }
+    split(b"a\\b", b"a\\b", b"")
+}
+
+// Into a buffer of eight bytes.
+fn dotted(s: &[u8], wanted: &[u8]) -> bool {
+    let mut d = [0u8; 8];
+    let n = specifier::dot_subpath(s, &mut d);
+    let same = text::equal(path::first(&d, n), path::first(wanted, 8));
+    case(same && n == wanted.len(), s)
+}
+
+fn dots() -> bool {
+    if !dotted(b"", b".") {
+        return false;
+    }
+    if !dotted(b"/c", b"./c") {
+        return false;
+    }
+    if !dotted(b"./c", b"./c") {
+        return false;
+    }
+    if !dotted(b"\\c", b".\\c") {
+        return false;
+    }
+    if !dotted(b"/345678", b"./345678") {
+        return false;
+    }
+    dotted(b"/3456789", b"./3456789")
+}
+
+fn strip(s: &[u8], name: &[u8], wanted: &[u8]) -> bool {
+    let r = specifier::strip_package_name(s, name);
+    match r {
+        Stripped::At(i) => case(text::equal(specifier::tail(s, i), wanted), s),
+        Stripped::Nothing => case(false, s),
+    }
+}
+
+fn keep(s: &[u8], name: &[u8]) -> bool {
+    let r = specifier::strip_package_name(s, name);
+    match r {
+        Stripped::At(_) => case(false, s),
+        Stripped::Nothing => true,
+    }
+}
+
+fn strips() -> bool {
+    if !strip(b"a", b"a", b"") {
+        return false;
+    }
+    if !strip(b"a/b", b"a", b"/b") {
+        return false;
+    }
+    if !strip(b"a\\b", b"a", b"\\b") {
+        return false;
+    }
+    if !strip(b"@a/b/c", b"@a/b", b"/c") {
+        return false;
+    }
+    if !strip(b"/b", b"", b"/b") {
+        return false;
+    }
+    if !keep(b"ab", b"a") {
+        return false;
+    }
+    if !keep(b"a", b"ab") {
+        return false;
+    }
+    if !keep(b"b/a", b"a") {
+        return false;
+    }
+    keep(b"a", b"")
+}
+
+fn good(s: &[u8]) -> bool {
+    case(specifier::check(s), s)
+}
+
+fn bad(s: &[u8]) -> bool {
+    case(!specifier::check(s), s)
+}
+
+fn bares() -> bool {
+    if !good(b"a") {
+        return false;
+    }
+    if !good(b"@") {
+        return false;
+    }
+    if !good(b"@a/b") {
+        return false;
+    }
+    if !good(b"a/") {
+        return false;
+    }
+    if !good(b"\\") {
+        return false;
+    }
+    if !good(b"...") {
+        return false;
+    }
+    if !good(b".a/b") {
+        return false;
+    }
+    if !good(b"a/../../b") {
+        return false;
+    }
+    good(b"\xC3\xA9#?")
+}
+
+fn refused() -> bool {
+    if !bad(b"") {
+        return false;
+    }
+    if !bad(b".") {
+        return false;
+    }
+    if !bad(b"..") {
+        return false;
+    }
+    if !bad(b"./a") {
+        return false;
+    }
+    if !bad(b"../a") {
+        return false;
+    }
+    if !bad(b"/a") {
+        return false;
+    }
+    if !bad(b"#a") {
+        return false;
+    }
+    if !bad(b"a\x00b") {
+        return false;
+    }
+    bad(b"a\xC3")
+}
+
+// 512 bytes are within the limit, 513 over it.
+fn limits() -> bool {
+    let s = [b'a'; 513];
+    if !good(&s[..512]) {
+        return false;
+    }
+    bad(&s)
+}
+
+fn parse(s: &[u8], path: &[u8], query: &[u8], fragment: &[u8]) -> bool {
+    let p = Specifier::parse(s);
+    let n = p.path.len;
+    let q = p.query;
+    let f = p.fragment;
+    let mut ok = !p.empty;
+    if !text::equal(path::first(&p.path.bytes, n), path) {
+        ok = false;
+    }
+    if !text::equal(specifier::between(s, q, f), query) {
+        ok = false;
+    }
+    if !text::equal(specifier::tail(s, f), fragment) {
+        ok = false;
+    }
+    case(ok, s)
+}
+
+fn empty(s: &[u8]) -> bool {
+    let p = Specifier::parse(s);
+    case(p.empty, s)
+}
+
+fn plain() -> bool {
+    if !parse(b"./a", b"./a", b"", b"") {
+        return false;
+    }
+    if !parse(b"./a?b", b"./a", b"?b", b"") {
+        return false;
+    }
+    if !parse(b"./a#b", b"./a", b"", b"#b") {
+        return false;
+    }
+    if !parse(b"./a?b#c", b"./a", b"?b", b"#c") {
+        return false;
+    }
+    if !parse(b"./a#b?c", b"./a", b"", b"#b?c") {
+        return false;
+    }
+    if !parse(b"./a?b?c#d#e", b"./a", b"?b?c", b"#d#e") {
+        return false;
+    }
+    if !parse(b"#a#b", b"#a", b"", b"#b") {
+        return false;
+    }
+    if !parse(b"#", b"#", b"", b"") {
+        return false;
+    }
+    if !parse(b"./?#", b"./", b"?", b"#") {
+        return false;
+    }
+    parse(b"\xC3\xA9?\xC3\xA9", b"\xC3\xA9", b"?\xC3\xA9", b"")
+}
+
+fn escaped() -> bool {
+    if !parse(b"./x\x00#y", b"./x#y", b"", b"") {
+        return false;
+    }
+    if !parse(b"\x00#", b"#", b"", b"") {
+        return false;
+    }
+    if !parse(b"./a\x00#b#c", b"./a#b", b"", b"#c") {
+        return false;
+    }
+    if !parse(b"./a?b\x00#c", b"./a", b"?b\x00#c", b"") {
+        return false;
+    }
+    if !parse(b"./a\x00b", b"./a\x00b", b"", b"") {
+        return false;
+    }
+    if !parse(b"./a\x00?b", b"./a\x00", b"?b", b"") {
+        return false;
+    }
+    if !parse(b"./\xC3\xA9\x00#", b"./\xC3\x83\xC2\xA9#", b"", b"") {
+        return false;
+    }
+    parse(b"\xC3\xA9?\x00#", b"\xC3\x83\xC2\xA9", b"?\x00#", b"")
+}
+
+fn empties() -> bool {
+    if !empty(b"") {
+        return false;
+    }
+    if !empty(b"?") {
+        return false;
+    }
+    empty(b"?a#b")
+}
+
+// A path of 2,048 bytes fits, of one more does not; so does one of 1,023 characters of two bytes and a "#".
+fn long_paths() -> bool {
+    let s = [b'a'; 2049];
+    let fits = Specifier::parse(&s[..2048]);
+    if fits.path.len != 2048 {
+        return false;
+    }
+    let long = Specifier::parse(&s);
+    if long.path.len <= 2048 {
+        return false;
+    }
+    let mut w = [0xE9u8; 1027];
+    w[1023] = 0;
+    w[1024] = b'#';
+    let wide = Specifier::parse(&w[..1025]);
+    if wide.path.len != 2047 {
+        return false;
+    }
+    let wider = Specifier::parse(&w);
+    wider.path.len > 2048
+}
+
+// The normalised specifier, and whether it leaves the directory of the first walk.
+fn climb(s: &[u8], wanted: &[u8], up: bool) -> bool {
+    let p = specifier::normalized(s);
+    let n = p.len;
+    let to = path::first(&p.bytes, n);
+    let same = text::equal(to, wanted);
+    let above = specifier::may_climb(s) && specifier::climbs(to);
+    case(same && above == up, s)
+}
+
+fn climbing() -> bool {
+    if !climb(b"a/../../b", b"../b", true) {
+        return false;
+    }
+    if !climb(b"a/../../../b", b"b", false) {
+        return false;
+    }
+    if !climb(b"a/../../b/", b"../b/", true) {
+        return false;
+    }
+    if !climb(b"a/../..", b"..", true) {
+        return false;
+    }
+    if !climb(b"a/../b", b"b", false) {
+        return false;
+    }
+    if !climb(b"a/b/../../c", b"c", false) {
+        return false;
+    }
+    climb(b"@a/b/../../../c", b"../c", true)
+}
+
+fn main() {
+    report(splits(), b"name and subpath: 12");
+    report(dots(), b"dotted subpath: 6");
+    report(strips(), b"package name stripped: 9");
+    report(bares(), b"question's specifier: 9");
+    report(refused(), b"refused: 9");
+    report(limits(), b"limit: 2");
+    report(plain(), b"path, query, fragment: 10");
+    report(escaped(), b"escaped: 8");
+    report(empties(), b"empty: 3");
+    report(long_paths(), b"long paths: 4");
+    report(climbing(), b"second walk: 7");
+}
