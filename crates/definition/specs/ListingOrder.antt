@@ -38,7 +38,7 @@ rest-below x y b e h = rw (eq-eqb x y e, h) (go (ltb x y))
     go true = refl
     go false = refl
 
-smaller-trans : (a b c : List ℕ) → smaller a b ≡ true → smaller b c ≡ true → smaller a c ≡ true
+pub smaller-trans : (a b c : List ℕ) → smaller a b ≡ true → smaller b c ≡ true → smaller a c ≡ true
 unfolding smaller
 smaller-trans a [] c p q = absurd (none a p)
   where
@@ -64,7 +64,7 @@ smaller-self (x ∷ a) h = go (below-cases x x _ h) (smaller-self a)
     go (inl k) ih = omega arith
     go (inr k) ih = ih (k .1)
 
-smaller-unequal : (a b : List ℕ) → smaller a b ≡ true → (equal a b ≡ false) × (equal b a ≡ false)
+pub smaller-unequal : (a b : List ℕ) → smaller a b ≡ true → (equal a b ≡ false) × (equal b a ≡ false)
 smaller-unequal a b h = (go (equal a b) refl, go′ (equal b a) refl)
   where
     go : (t : Bool) → equal a b ≡ t → equal a b ≡ false
