@@ -11,8 +11,8 @@ use borrow.Author.Tests.{ltb-true, ltb-false, leb-true, leb-false}
 use Rattle.definition.specs.Text.{text, slash, if_then_else_, equal, startsWith, equalIgnoringCase, before, text-computes}
 use Rattle.definition.specs.TextLaws.{equal-true, startsWith-length}
 use Rattle.definition.specs.TextSteps.{first-inside}
-use Rattle.definition.specs.Path.{parentDir, normal, component, push, parent, pops, Built, built, tooLong, andPath, limited, pushComponent, pushAll, pushRelative, normalizeRelative, invalidComponent, anyInvalid}
-use Rattle.definition.specs.PathLaws.{limited-fits, component-up, parts, parts-more, parts-last, parts-rooted, rooted, not-rooted, anyInvalid-append, pushAll-append, pushRelative-append, rootOf, relative-parts, parent-short, room, room-high, relative-length}
+use Rattle.definition.specs.Path.{path-computes, parentDir, normal, component, push, parent, pops, Built, built, tooLong, andPath, limited, pushComponent, pushAll, pushRelative, normalizeWith, normalizeRelative, invalidComponent, anyInvalid}
+use Rattle.definition.specs.PathLaws.{limited-fits, component-up, parts, parts-more, parts-last, parts-rooted, rooted, not-rooted, anyInvalid-append, pushAll-append, pushRelative-append, rootOf, relative-parts, parent-short, room, room-high, relative-length, with-parts}
 use Rattle.definition.specs.PathSteps.{starts-with, starts-empty}
 use Rattle.path.specs.Meaning.{pathAt}
 use Rattle.path.proofs.Steps.{at-fits, at-long}
@@ -207,3 +207,11 @@ module _ (x y : Built) (p : List ℕ) (at e : ℕ) (h : e ≡ at + length (befor
 
   pub going-last : length p ≤ e → y ≡ andPath (limited p) (λ q. built (normalizeRelative q))
   going-last m = next-is ∙ rw (limited-fits p l, ← g .rest, parts-last p at e h m)
+
+-- `normalize_below`: "./" in front adds no part
+dot-parts : (s : List ℕ) → parts (text "./" ++ s) ≡ parts s
+unfolding path-computes parts
+dot-parts s = refl
+
+pub with-dot : (base sub : List ℕ) → normalizeWith base (text "./" ++ sub) ≡ andPath (limited base) (λ p. pushAll (parts sub) p)
+with-dot base sub = rw (with-parts base (text "./" ++ sub) (omega arith) (λ e. omega arith), dot-parts sub)

@@ -1,8 +1,9 @@
 // Paths: a path under construction, and path.rs.
 ghost use mathlib.Core.Path.{_≡_};
-ghost use mathlib.Core.List.{[]};
+ghost use mathlib.Core.List.{[], _++_};
 ghost use Prim.Native.Nat.{_≤_};
 ghost use lib.ListN.{length, take};
+ghost use Rattle.definition.specs.Text.{text};
 ghost use Rattle.definition.specs.Path.{built, andPath, limited, push, parent, addExtension, addNameAndExtension, manifestOf, nameOf, component, pushAll, normalizeWith, pops, pushRelative, normalizeRelative, anyInvalid, isInvalidExportsTarget};
 ghost use Rattle.definition.specs.PathLaws.{parts, rootOf};
 ghost use Rattle.path.specs.Meaning.{pathAt, pathOf, isTooLong};
@@ -212,6 +213,16 @@ pub fn normalize_with(base: &[u8], sub: &[u8]) -> PathBuf
     if sub[0] == b'/' {
         return PathBuf::from(sub);
     }
+    let mut p = PathBuf::from(base);
+    let n = p.len;
+    p.len = push_parts(&mut p.bytes, n, sub);
+    p
+}
+
+// The same with "./" before the subpath, so that an empty or absolute one is taken from the base too.
+pub fn normalize_below(base: &[u8], sub: &[u8]) -> PathBuf
+    ensures { λ r. ⌜ pathOf r ≡ normalizeWith (now (base .entry)) (text "./" ++ now (sub .entry)) ⌝ }
+{
     let mut p = PathBuf::from(base);
     let n = p.len;
     p.len = push_parts(&mut p.bytes, n, sub);

@@ -1,3 +1,4 @@
 pub mod Tape
 pub mod Loop
 pub mod Meaning
+pub mod Routines

@@ -45,9 +45,6 @@ stepOf (Stopped n) = stop n
 abbrev pub numbers : ℕ → Text → Text → Text → Ending
 numbers n a b c = record { number = n; first = length a; second = length b; third = length c }
 
-abbrev pub refusal : ℕ → Way
-refusal n = Stopped (record { number = n; first = 0; second = 0; third = 0 })
-
 -- the steps of the definition that a function of the code does together: a path that was built is tried as a file
 unfoldable pub tryPath : Settings → Built → Text → Text → Look (Unit {0})
 tryPath G b q f = do
