@@ -1,14 +1,14 @@
 -- What the routines from LOAD_AS_DIRECTORY on give back, and the steps of the definition that a function of the code does together.
 use mathlib.Core.Path.{_≡_}
 use mathlib.Core.Bool.{Bool}
-use mathlib.Core.List.{List, []}
+use mathlib.Core.List.{List, [], _++_}
 use mathlib.Core.Option.{Option, none, some}
 use mathlib.Core.Logic.{_⊎_}
 use Prim.Native.Nat.{ℕ, _≤_, _<_}
 use lib.ListN.{length, drop, take}
-use Rattle.definition.specs.Text.{Text}
+use Rattle.definition.specs.Text.{Text, overwrite}
 use Rattle.definition.specs.Path.{manifestOf}
-use Rattle.definition.specs.Json.{Json, scalar, Read, got, fault, parse, quoted}
+use Rattle.definition.specs.Json.{Json, scalar, Read, got, fault, parse}
 use Rattle.definition.specs.JsonAtLaws.{Stands}
 use Rattle.definition.specs.Exports.{Context}
 use Rattle.definition.specs.ListingSteps.{part}
@@ -18,18 +18,12 @@ use Rattle.definition.specs.Manifest as definition
 use Rattle.definition.specs.Manifest.{Place, manifestView, ifText, field, resolveExports}
 use Rattle.definition.specs.Walk as walk
 use Rattle.definition.specs.Walk.{Look, perhaps, given, never, isDir, when, bare, sound, loadMain, LOAD-AS-DIRECTORY, RESOLVE-ESM-MATCH, asDirectory}
-use Rattle.package_json.specs.declared.TextAt.{TextAt}
-use Rattle.package_json.specs.Cursors.{textOf, orEmpty}
-use Rattle.exports.specs.declared.Key.{Key}
-use Rattle.exports.specs.declared.Key.the-variants as InExports
-use Rattle.exports.specs.declared.Key.the-variants.{Dot, Subpath}
-use Rattle.exports.specs.Chosen.{readText}
 use Rattle.resolver.specs.declared.Ending.{Ending}
 use Rattle.resolver.specs.declared.Way.{Way}
 use Rattle.resolver.specs.declared.Way.the-variants.{Next, Stopped}
 use Rattle.resolver.specs.declared.Package.{Package}
 use Rattle.resolver.specs.declared.Package.the-variants.{Nowhere, At}
-use Rattle.resolver.specs.Meaning.{place, Sought}
+use Rattle.resolver.specs.Meaning.{place, numbers, Sought}
 
 -- The nearest manifest, judged: the definition's `nearest` is `seek`, and this where one was found
 unfoldable pub judged : Sought → Look (Option walk.Scope)
@@ -75,11 +69,10 @@ ifDirectory G w = do
   b ← isDir (w .path)
   when b (LOAD-AS-DIRECTORY G w)
 
--- the key of the manifest was read
-abbrev pub KeyRead : (m work : Text) → Key → TextAt → Type 0
-KeyRead m work Dot t = Unit {0}
-KeyRead m work Subpath t = Unit {0}
-KeyRead m work (InExports.At i) t = orEmpty (textOf m work t) ≡ readText (quoted (drop i m))
+-- an ending with a number and three texts, which were written to the result text
+pub record Finishes (n : ℕ) (a b c : Text) (r : Ending) (before after : Text) : Type 0 where
+  pub ending : r ≡ numbers n a b c
+  pub texts : after ≡ overwrite 0 (a ++ (b ++ c)) before
 
 -- an exports field was resolved to a target
 abbrev pub foundOf : Context → Text → Way → Step Ending Place

@@ -35,7 +35,7 @@ ghost use Rattle.exports.specs.Answers.{outcomeIn};
 ghost use Rattle.exports.specs.Chosen.{keyText};
 ghost use Rattle.resolver.specs.Tape.{most, packed, put, Done};
 ghost use Rattle.resolver.specs.Meaning.{tapeOf, consultOf, stepOf, place, numbers, tryPath, manifestFound, manifestIn, readOf, Sees, seek, soughtOf, loadMainFile};
-ghost use Rattle.resolver.specs.Routines.{judged, scopeOf, ownOf, Held, Fits, mainField, ifDirectory, KeyRead, foundOf, matchExports, goingOf, directoryOrFile, Refused};
+ghost use Rattle.resolver.specs.Routines.{judged, scopeOf, ownOf, Held, Fits, mainField, ifDirectory, Finishes, foundOf, matchExports, goingOf, directoryOrFile, Refused};
 
 // How a lookup ended: the number of document 01, and the lengths of its texts, which stand in the result text.
 pub struct Ending {
@@ -501,17 +501,23 @@ fn load_index<'a>(
     }
 }
 
-// A fault of a manifest ends the lookup; of a manifest that is no JSON the path is told.
+// The end of a lookup by an error that names a manifest only.
+fn manifest_ending(number: u8, dir: &[u8], result: &mut [u8]) -> Ending
+    requires { ⌜ length (manifestOf (now dir)) ≤ 2048 ⌝ }
+    ensures { λ r. ⌜ Finishes number (manifestOf (now (dir .entry))) [] [] r (now (result .entry)) (now (result .exit)) ⌝ }
+{
+    let p = PathBuf::from(dir).push_manifest();
+    let n = p.len;
+    finish(number, path::first(&p.bytes, n), b"", b"", result)
+}
+
+// A fault of a manifest ends the lookup; of one that is no JSON the path is told.
 fn fault_ending(f: package_json::Fault, dir: &[u8], result: &mut [u8]) -> Ending
     requires { ⌜ length (manifestOf (now dir)) ≤ 2048 ⌝ }
-    ensures { λ r. ⌜ ((L : Listing Sees) (numbers text : List ℕ) (m : Mark) → Done L (sound (manifestOf (now (dir .entry))) (stop (faultOf f))) (tapeOf (now (result .entry)) numbers text m) (tapeOf (now (result .exit)) numbers text m) (stop r)) ⌝ }
+    ensures { λ r. ⌜ ((L : Listing Sees) (numbers list : List ℕ) (m : Mark) → Done L (sound (manifestOf (now (dir .entry))) (stop (faultOf f))) (tapeOf (now (result .entry)) numbers list m) (tapeOf (now (result .exit)) numbers list m) (stop r)) ⌝ }
 {
     match f {
-        package_json::Fault::Malformed => {
-            let p = PathBuf::from(dir).push_manifest();
-            let n = p.len;
-            finish(7, path::first(&p.bytes, n), b"", b"", result)
-        }
+        package_json::Fault::Malformed => manifest_ending(7, dir, result),
         package_json::Fault::Beyond => refuse(40),
         package_json::Fault::Twice => refuse(41),
     }
@@ -599,7 +605,14 @@ fn scope(
 }
 
 // The directory's own manifest: the nearest is read, and kept only where it is in the directory itself.
-fn own(l: &[u8], dir: &[u8], result: &mut [u8], nums: &mut [u32], text: &mut [u8], m: Mark) -> Scoped
+fn own(
+    l: &[u8],
+    dir: &[u8],
+    result: &mut [u8],
+    nums: &mut [u32],
+    text: &mut [u8],
+    m: Mark,
+) -> Scoped
     ensures done { λ r. ⌜ ((G : Settings) → Done (seenBy G (now (l .entry))) (ownIn G (now (dir .entry))) (tapeOf (now (result .entry)) (now (nums .entry)) (now (text .entry)) m) (tapeOf (now (result .exit)) (now (nums .exit)) (now (text .exit)) (r .mark)) (ownOf G (now (l .entry)) (r .way) (r .package))) ⌝ }
     ensures held { λ r. ⌜ Held (now (l .entry)) (r .package) ⌝ }
     ensures fits { λ r. ⌜ Fits (now (dir .entry)) (r .way) (r .package) ⌝ }
@@ -906,83 +919,106 @@ fn exports_field(m: &[u8], root: usize, s: &[u8]) -> Cursor
     Cursor::Nothing
 }
 
-// The key that led to a target, where it stands in the manifest.
-fn read_key(m: &[u8], key: Key, work: &mut [u8]) -> TextAt
-    requires { ⌜ 1024 ≤ length (now work) ⌝ }
-    ensures { λ r. ⌜ KeyRead (now (m .entry)) (now (work .exit)) key r ⌝ }
-{
-    match key {
-        Key::Dot => TextAt::Nothing,
-        Key::Subpath => TextAt::Nothing,
-        Key::At(i) => package_json::read_text(m, i, work),
-    }
-}
-
-// The text of the key: ".", the subpath, or a name of the manifest.
-fn key_text<'a>(
-    m: &'a [u8],
-    work: &'a [u8],
-    dot: &'a [u8],
-    subpath: &'a [u8],
+// An error that names a target, the key that led to it and the manifest.
+fn invalid_target(
+    m: &[u8],
+    target: &[u8],
+    subpath: &[u8],
     key: Key,
-    t: TextAt,
-) -> &'a [u8]
-    ensures { λ r. ⌜ (KeyRead (now (m .entry)) (now (work .entry)) key t → now (dot .entry) ≡ text "." → now r ≡ keyText (now (m .entry)) (now (subpath .entry)) key) ⌝ }
+    dir: &[u8],
+    result: &mut [u8],
+    work: &mut [u8],
+) -> Ending
+    requires { ⌜ (1024 ≤ length (now work)) × (length (manifestOf (now dir)) ≤ 2048) ⌝ }
+    ensures { λ r. ⌜ Finishes 3 (now (target .entry)) (keyText (now (m .entry)) (now (subpath .entry)) key) (manifestOf (now (dir .entry))) r (now (result .entry)) (now (result .exit)) ⌝ }
 {
+    let p = PathBuf::from(dir).push_manifest();
+    let n = p.len;
+    let manifest = path::first(&p.bytes, n);
     match key {
-        Key::Dot => dot,
-        Key::Subpath => subpath,
-        Key::At(_) => package_json::text_at(m, work, t),
+        Key::Dot => finish(3, target, b".", manifest, result),
+        Key::Subpath => finish(3, target, subpath, manifest, result),
+        Key::At(i) => {
+            let t = package_json::read_text(m, i, work);
+            let name = package_json::text_at(m, work, t);
+            finish(3, target, name, manifest, result)
+        }
     }
 }
 
-// The part of the subpath that matched a pattern key, or ".".
-fn match_text<'a>(dot: &'a [u8], subpath: &'a [u8], matched: Match) -> &'a [u8]
-    ensures { λ r. ⌜ (now (dot .entry) ≡ text "." → now r ≡ orDot (matchOf (now (subpath .entry)) matched)) ⌝ }
+// An error that names a key that is not exported, and the package's directory.
+fn key_not_exported(
+    m: &[u8],
+    subpath: &[u8],
+    key: Key,
+    dir: &[u8],
+    result: &mut [u8],
+    work: &mut [u8],
+) -> Ending
+    requires { ⌜ 1024 ≤ length (now work) ⌝ }
+    ensures { λ r. ⌜ Finishes 4 (keyText (now (m .entry)) (now (subpath .entry)) key) (now (dir .entry)) [] r (now (result .entry)) (now (result .exit)) ⌝ }
+{
+    match key {
+        Key::Dot => finish(4, b".", dir, b"", result),
+        Key::Subpath => finish(4, subpath, dir, b"", result),
+        Key::At(i) => {
+            let t = package_json::read_text(m, i, work);
+            let name = package_json::text_at(m, work, t);
+            finish(4, name, dir, b"", result)
+        }
+    }
+}
+
+// The same for the part of the subpath that matched a pattern key, or ".".
+fn match_not_exported(subpath: &[u8], matched: Match, dir: &[u8], result: &mut [u8]) -> Ending
+    ensures { λ r. ⌜ Finishes 4 (orDot (matchOf (now (subpath .entry)) matched)) (now (dir .entry)) [] r (now (result .entry)) (now (result .exit)) ⌝ }
 {
     match matched {
-        Match::Part { start, len } => text::part(subpath, start, len),
-        Match::Nothing => dot,
+        Match::Part { start, len } => finish(4, text::part(subpath, start, len), dir, b"", result),
+        Match::Nothing => finish(4, b".", dir, b"", result),
     }
 }
 
 // How an exports field that gives no path ends the lookup.
 fn exports_ending(
+    m: &[u8],
+    dir: &[u8],
+    subpath: &[u8],
     outcome: Outcome,
     target: &[u8],
-    key: &[u8],
-    matched: &[u8],
-    subpath: &[u8],
-    dir: &[u8],
+    key: Key,
+    matched: Match,
     result: &mut [u8],
+    work: &mut [u8],
 ) -> Way
-    requires { ⌜ length (manifestOf (now dir)) ≤ 2048 ⌝ }
-    ensures { λ r. ⌜ ((L : Listing Sees) (numbers text : List ℕ) (m : Mark) (c : Context) (k : Option Text) → orDot k ≡ now (matched .entry) → Done L (given (resolvedTo c (now (dir .entry)) (now (subpath .entry)) (outcomeIn (now (dir .entry)) (now (key .entry)) k outcome (now (target .entry))))) (tapeOf (now (result .entry)) numbers text m) (tapeOf (now (result .exit)) numbers text m) (foundOf c (now (target .entry)) r)) ⌝ }
+    requires { ⌜ (1024 ≤ length (now work)) × (length (manifestOf (now dir)) ≤ 2048) ⌝ }
+    ensures { λ r. ⌜ ((L : Listing Sees) (numbers list : List ℕ) (mark : Mark) (c : Context) → Done L (given (resolvedTo c (now (dir .entry)) (now (subpath .entry)) (outcomeIn (now (dir .entry)) (keyText (now (m .entry)) (now (subpath .entry)) key) (matchOf (now (subpath .entry)) matched) outcome (now (target .entry))))) (tapeOf (now (result .entry)) numbers list mark) (tapeOf (now (result .exit)) numbers list mark) (foundOf c (now (target .entry)) r)) ⌝ }
 {
-    let p = PathBuf::from(dir).push_manifest();
-    let n = p.len;
-    let manifest = path::first(&p.bytes, n);
     match outcome {
         Outcome::Found => Way::Next,
         Outcome::Nothing => Way::Stopped(finish(4, subpath, dir, b"", result)),
         Outcome::Empty => Way::Stopped(finish(2, target, b"", b"", result)),
-        Outcome::InvalidTarget => Way::Stopped(finish(3, target, key, manifest, result)),
-        Outcome::NotExportedMatch => Way::Stopped(finish(4, matched, dir, b"", result)),
-        Outcome::NotExported => Way::Stopped(finish(4, key, dir, b"", result)),
-        Outcome::ConfigMixed => Way::Stopped(finish(5, manifest, b"", b"", result)),
-        Outcome::ConfigDirectory => Way::Stopped(finish(6, manifest, b"", b"", result)),
+        Outcome::InvalidTarget => {
+            Way::Stopped(invalid_target(m, target, subpath, key, dir, result, work))
+        }
+        Outcome::NotExportedMatch => {
+            Way::Stopped(match_not_exported(subpath, matched, dir, result))
+        }
+        Outcome::NotExported => Way::Stopped(key_not_exported(m, subpath, key, dir, result, work)),
+        Outcome::ConfigMixed => Way::Stopped(manifest_ending(5, dir, result)),
+        Outcome::ConfigDirectory => Way::Stopped(manifest_ending(6, dir, result)),
         Outcome::OverLong => Way::Stopped(refuse(42)),
     }
 }
 
 // PACKAGE_EXPORTS_RESOLVE for the exports field at a place, and RESOLVE_ESM_MATCH for the path that it gives.
-fn resolve_exports<'a>(
+fn resolve_exports(
     l: &[u8],
     s: &[u8],
     spec: &[u8],
     dir: &[u8],
-    subpath: &'a [u8],
-    manifest: &'a [u8],
+    subpath: &[u8],
+    manifest: &[u8],
     at: usize,
     result: &mut [u8],
     nums: &mut [u32],
@@ -1001,16 +1037,16 @@ fn resolve_exports<'a>(
     let context = r.context;
     let n = path.len;
     let target = path::first(&path.bytes, n);
-    let dot = b".";
-    let t = read_key(manifest, key, work);
     let way = exports_ending(
+        manifest,
+        dir,
+        subpath,
         outcome,
         target,
-        key_text(manifest, work, dot, subpath, key, t),
-        match_text(dot, subpath, matched),
-        subpath,
-        dir,
+        key,
+        matched,
         result,
+        work,
     );
     let Way::Next = way else {
         return Out { way, mark: m };
