@@ -1,3 +1,7 @@
+use mathlib.Core.Path.{sym, _∙_}
+use Rattle.definition.specs.Walk.{when, under, inDirectory}
+use Rattle.resolver.specs.Tape.{done-ret}
+use Rattle.resolver.proofs.Modules.{is-dir, no-dir, made-long, made-fits}
 use borrow.Author.Needs.{needs}
 use Rattle.resolver.proofs.in_directory.Statement.{statement}
 use Rattle.resolver.proofs.in_directory.Tie as tie
@@ -9,112 +13,37 @@ use Rattle.resolver.proofs.consult.Reads as consult-reads
 use Rattle.resolver.proofs.in_modules.Reads as in-modules-reads
 use Rattle.resolver.proofs.refuse.Reads as refuse-reads
 
--- src/lib.rt:1479:9
-consult-requires : tie.Need-consult-requires
-consult-requires c κs = search needs
-
--- src/lib.rt:1482:9
-same-length : tie.Need-same-length
-same-length c = search needs
-
--- src/lib.rt:1482:9
-same-length-2 : tie.Need-same-length-2
-same-length-2 c = search needs
-
--- src/lib.rt:1482:9
-returns : tie.Need-returns
-returns c = ?
-
--- src/lib.rt:1487:39
-slice-aggregate-normalize-with : tie.Need-slice-aggregate-normalize-with
-slice-aggregate-normalize-with c = search needs
-
--- src/lib.rt:1487:13
-normalize-with-requires : tie.Need-normalize-with-requires
-normalize-with-requires c κs = search needs
-
--- src/lib.rt:1491:31
-refuse-requires : tie.Need-refuse-requires
-refuse-requires c κs = search needs
-
--- src/lib.rt:1490:9
-same-length-3 : tie.Need-same-length-3
-same-length-3 c = search needs
-
--- src/lib.rt:1490:9
-same-length-4 : tie.Need-same-length-4
-same-length-4 c = search needs
-
--- src/lib.rt:1490:9
-returns-2 : tie.Need-returns-2
-returns-2 c = ?
-
--- src/lib.rt:1495:9
-first-requires : tie.Need-first-requires
-first-requires c κs = search needs
-
--- src/lib.rt:1496:9
-consult-requires-2 : tie.Need-consult-requires-2
-consult-requires-2 c κs = search needs
-
--- src/lib.rt:1499:9
-same-length-5 : tie.Need-same-length-5
-same-length-5 c = search needs
-
--- src/lib.rt:1499:9
-same-length-6 : tie.Need-same-length-6
-same-length-6 c = search needs
-
--- src/lib.rt:1499:9
-returns-3 : tie.Need-returns-3
-returns-3 c = ?
-
--- src/lib.rt:1504:5
-in-modules-requires : tie.Need-in-modules-requires
-in-modules-requires c κs = ?
-
--- src/lib.rt:1463:1
-same-length-7 : tie.Need-same-length-7
-same-length-7 c = search needs
-
--- src/lib.rt:1463:1
-same-length-8 : tie.Need-same-length-8
-same-length-8 c = ?
-
--- src/lib.rt:1463:1
-same-length-9 : tie.Need-same-length-9
-same-length-9 c = ?
-
--- src/lib.rt:1463:1
-same-length-10 : tie.Need-same-length-10
-same-length-10 c = search needs
-
--- src/lib.rt:1463:1
-returns-4 : tie.Need-returns-4
-returns-4 c = ?
-
 pub in-directory-spec : {M : Type 1} → statement M
+unfolding inDirectory when under
 in-directory-spec =
     tie.close
     (tie.spec
-    consult-requires
-    same-length
-    same-length-2
-    returns
-    slice-aggregate-normalize-with
-    normalize-with-requires
-    refuse-requires
-    same-length-3
-    same-length-4
-    returns-2
-    first-requires
-    consult-requires-2
-    same-length-5
-    same-length-6
-    returns-3
-    in-modules-requires
-    same-length-7
-    same-length-8
-    same-length-9
-    same-length-10
-    returns-4)
+    (λ c κs. search needs)
+    (λ c. search needs)
+    (λ c. search needs)
+    (λ c. let k = c .before .before .before .before .before .before .before .consult .ensures in
+    no-dir _ _ _ _ _ _ (k .0) (k .1 _) _ (c .if1 .taken) done-ret)
+    (λ c. search needs)
+    (λ c κs. search needs)
+    (λ c κs. search needs)
+    (λ c. search needs)
+    (λ c. search needs)
+    (λ c. let k = c .before .before .before .before .before .before .before .before .before .before .before .consult .ensures in
+    is-dir _ _ _ _ _ _ (k .0) (k .1 _) _ (c .before .before .before .before .if1 .left) (rw (c .refuse .ensures) (made-long _ _ (c .before .before .normalize-with .ensures) _ _ (c .before .if2 .taken))))
+    (λ c κs. search needs)
+    (λ c κs. search needs)
+    (λ c. search needs)
+    (λ c. search needs)
+    (λ c. let k = c .before .before .before .before .before .before .before .before .before .before .before .before .before .before .before .before .before .before .before .before .before .before .before .before .consult .ensures in
+    let p = c .before .before .before .before .before .before .before .before .before .before .first .ensures in
+    let j = c .before .before .before .before .before .before .before .consult2 .ensures in
+    is-dir _ _ _ _ _ _ (k .0) (k .1 _) _ (c .before .before .before .before .before .before .before .before .before .before .before .before .before .before .before .before .before .if1 .left) (made-fits _ _ (c .before .before .before .before .before .before .before .before .before .before .before .before .before .before .before .normalize-with .ensures) _ (c .before .before .before .before .before .before .before .before .before .before .before .before .before .before .if2 .left) (no-dir _ _ _ _ _ _ (rw p at (j .0)) (rw p at (j .1 _)) _ (c .if3 .taken) done-ret)))
+    (λ c κs. c .before .before .before .before .before .before .before .before .before .before .before .before .before .before .before .before .before .before .before .before .before .before .before .before .before .before .before .before .before .before .before .before .before .before .before .before .before .before .before .before .before .pre)
+    (λ c. search needs)
+    (λ c. c .before .before .before .before .before .before .before .before .in-modules .kept .1 .1 .1 .1 .1 .1 .1 .0 ∙ c .before .before .before .before .before .before .before .before .before .before .before .before .before .before .before .before .before .before .before .before .consult2 .kept .1 .1 .0 ∙ c .before .before .before .before .before .before .before .before .before .before .before .before .before .before .before .before .before .before .before .before .before .before .before .before .before .before .before .before .before .before .before .before .before .before .before .before .before .consult .kept .1 .1 .0)
+    (λ c. c .before .before .before .before .before .before .before .before .in-modules .kept .1 .1 .1 .1 .1 .1 .1 .1 .0 ∙ c .before .before .before .before .before .before .before .before .before .before .before .before .before .before .before .before .before .before .before .before .consult2 .kept .1 .1 .1 .0 ∙ c .before .before .before .before .before .before .before .before .before .before .before .before .before .before .before .before .before .before .before .before .before .before .before .before .before .before .before .before .before .before .before .before .before .before .before .before .before .consult .kept .1 .1 .1 .0)
+    (λ c. search needs)
+    (λ c. let k = c .before .before .before .before .before .before .before .before .before .before .before .before .before .before .before .before .before .before .before .before .before .before .before .before .before .before .before .before .before .before .before .before .before .before .before .before .before .consult .ensures in
+    let p = c .before .before .before .before .before .before .before .before .before .before .before .before .before .before .before .before .before .before .before .before .before .before .before .first .ensures in
+    let j = c .before .before .before .before .before .before .before .before .before .before .before .before .before .before .before .before .before .before .before .before .consult2 .ensures in
+    is-dir _ _ _ _ _ _ (k .0) (k .1 _) _ (c .before .before .before .before .before .before .before .before .before .before .before .before .before .before .before .before .before .before .before .before .before .before .before .before .before .before .before .before .before .before .if1 .left) (made-fits _ _ (c .before .before .before .before .before .before .before .before .before .before .before .before .before .before .before .before .before .before .before .before .before .before .before .before .before .before .before .before .normalize-with .ensures) _ (c .before .before .before .before .before .before .before .before .before .before .before .before .before .before .before .before .before .before .before .before .before .before .before .before .before .before .before .if2 .left) (is-dir _ _ _ _ _ _ (rw p at (j .0)) (rw p at (j .1 _)) _ (c .before .before .before .before .before .before .before .before .before .before .before .before .before .if3 .left) (rw p at (c .before .before .before .before .before .before .before .before .in-modules .ensures))))))

@@ -1,3 +1,6 @@
+use Rattle.definition.specs.Walk.{bare, asDirectory}
+use Rattle.resolver.specs.Routines.{directoryOrFile}
+use Rattle.resolver.proofs.Modules.{is-dir, no-dir}
 use borrow.Author.Needs.{needs}
 use Rattle.resolver.proofs.load_directory_or_file.Statement.{statement}
 use Rattle.resolver.proofs.load_directory_or_file.Tie as tie
@@ -7,87 +10,26 @@ use Rattle.resolver.proofs.consult.Reads as consult-reads
 use Rattle.resolver.proofs.load_as_directory.Reads as load-as-directory-reads
 use Rattle.resolver.proofs.load_as_file.Reads as load-as-file-reads
 
--- src/lib.rt:1318:9
-consult-requires : tie.Need-consult-requires
-consult-requires c κs = search needs
-
--- src/lib.rt:1320:46
-slice-aggregate-load-as-directory : tie.Need-slice-aggregate-load-as-directory
-slice-aggregate-load-as-directory c = search needs
-
--- src/lib.rt:1320:51
-slice-aggregate-load-as-directory-2 : tie.Need-slice-aggregate-load-as-directory-2
-slice-aggregate-load-as-directory-2 c = search needs
-
--- src/lib.rt:1320:9
-load-as-directory-requires : tie.Need-load-as-directory-requires
-load-as-directory-requires c κs = search needs
-
--- src/lib.rt:1320:9
-same-length : tie.Need-same-length
-same-length c = search needs
-
--- src/lib.rt:1320:9
-same-length-2 : tie.Need-same-length-2
-same-length-2 c = search needs
-
--- src/lib.rt:1320:9
-same-length-3 : tie.Need-same-length-3
-same-length-3 c = search needs
-
--- src/lib.rt:1320:9
-same-length-4 : tie.Need-same-length-4
-same-length-4 c = search needs
-
--- src/lib.rt:1320:9
-returns : tie.Need-returns
-returns c = ?
-
--- src/lib.rt:1322:30
-slice-aggregate-load-as-file : tie.Need-slice-aggregate-load-as-file
-slice-aggregate-load-as-file c = search needs
-
--- src/lib.rt:1322:35
-slice-aggregate-load-as-file-2 : tie.Need-slice-aggregate-load-as-file-2
-slice-aggregate-load-as-file-2 c = search needs
-
--- src/lib.rt:1322:5
-load-as-file-requires : tie.Need-load-as-file-requires
-load-as-file-requires c κs = search needs
-
--- src/lib.rt:1305:1
-same-length-5 : tie.Need-same-length-5
-same-length-5 c = search needs
-
--- src/lib.rt:1305:1
-same-length-6 : tie.Need-same-length-6
-same-length-6 c = search needs
-
--- src/lib.rt:1305:1
-same-length-7 : tie.Need-same-length-7
-same-length-7 c = search needs
-
--- src/lib.rt:1305:1
-returns-2 : tie.Need-returns-2
-returns-2 c = ?
-
 pub load-directory-or-file-spec : {M : Type 1} → statement M
+unfolding directoryOrFile asDirectory bare
 load-directory-or-file-spec =
     tie.close
     (tie.spec
-    consult-requires
-    slice-aggregate-load-as-directory
-    slice-aggregate-load-as-directory-2
-    load-as-directory-requires
-    same-length
-    same-length-2
-    same-length-3
-    same-length-4
-    returns
-    slice-aggregate-load-as-file
-    slice-aggregate-load-as-file-2
-    load-as-file-requires
-    same-length-5
-    same-length-6
-    same-length-7
-    returns-2)
+    (λ c κs. search needs)
+    (λ c. search needs)
+    (λ c. search needs)
+    (λ c κs. search needs)
+    (λ c. search needs)
+    (λ c. search needs)
+    (λ c. search needs)
+    (λ c. search needs)
+    (λ c. let k = c .before .before .before .before .before .before .before .before .before .before .before .before .before .before .before .before .before .before .before .before .before .consult .ensures in
+    is-dir _ _ _ _ _ _ (k .0) (k .1 _) _ (c .before .before .before .before .before .before .before .before .before .before .before .before .before .before .before .if1 .taken) (c .before .before .before .before .before .before .before .before .load-as-directory .ensures))
+    (λ c. search needs)
+    (λ c. search needs)
+    (λ c κs. search needs)
+    (λ c. search needs)
+    (λ c. search needs)
+    (λ c. search needs)
+    (λ c. let k = c .before .before .before .before .before .before .before .before .before .before .before .before .before .before .before .before .before .before .consult .ensures in
+    no-dir _ _ _ _ _ _ (k .0) (k .1 _) _ (c .before .before .before .before .before .before .before .before .before .before .before .before .if1 .left) (c .before .before .before .before .before .before .load-as-file .ensures)))

@@ -1,3 +1,7 @@
+use mathlib.Core.Path.{refl, sym, _∙_}
+use borrow.Author.Tests.{not-true, not-false}
+use Rattle.resolver.proofs.Steps.{done-isDir}
+use Rattle.resolver.proofs.Modules.{subpath-left, unscoped, scoped}
 use borrow.Author.Needs.{needs}
 use Rattle.resolver.proofs.without_directory.Statement.{statement}
 use Rattle.resolver.proofs.without_directory.Tie as tie
@@ -7,52 +11,18 @@ use Rattle.path.proofs.parent.Reads as parent-reads
 use Rattle.resolver.proofs.consult.Reads as consult-reads
 use Rattle.text.proofs.starts_with.Reads as starts-with-reads
 
--- src/lib.rt:1287:9
-returns : tie.Need-returns
-returns c = ?
-
--- src/lib.rt:1293:33
-slice-aggregate-starts-with : tie.Need-slice-aggregate-starts-with
-slice-aggregate-starts-with c = search needs
-
--- src/lib.rt:1293:9
-starts-with-requires : tie.Need-starts-with-requires
-starts-with-requires c κs = search needs
-
--- src/lib.rt:1294:9
-returns-2 : tie.Need-returns-2
-returns-2 c = ?
-
--- src/lib.rt:1300:28
-parent-requires : tie.Need-parent-requires
-parent-requires c κs = search needs
-
--- src/lib.rt:1300:9
-consult-requires : tie.Need-consult-requires
-consult-requires c κs = search needs
-
--- src/lib.rt:1274:1
-same-length : tie.Need-same-length
-same-length c = search needs
-
--- src/lib.rt:1274:1
-same-length-2 : tie.Need-same-length-2
-same-length-2 c = search needs
-
--- src/lib.rt:1274:1
-returns-3 : tie.Need-returns-3
-returns-3 c = ?
-
 pub without-directory-spec : {M : Type 1} → statement M
 without-directory-spec =
     tie.close
     (tie.spec
-    returns
-    slice-aggregate-starts-with
-    starts-with-requires
-    returns-2
-    parent-requires
-    consult-requires
-    same-length
-    same-length-2
-    returns-3)
+    (λ c. (refl, λ G spec res. subpath-left G _ _ _ _ _ (c .if1 .taken)))
+    (λ c. search needs)
+    (λ c κs. search needs)
+    (λ c. (refl, λ G spec res. unscoped G _ _ _ _ _ (c .before .before .before .if1 .left) (sym (c .before .starts-with .ensures) ∙ not-true _ (c .if2 .taken))))
+    (λ c κs. search needs)
+    (λ c κs. search needs)
+    (λ c. search needs)
+    (λ c. search needs)
+    (λ c. let k = c .before .before .before .before .before .before .consult .ensures in
+    let p = c .before .before .before .before .before .before .before .before .before .parent .ensures in
+    (refl, λ G spec res. scoped G _ _ _ _ (c .before .before .before .before .before .before .before .before .before .before .before .before .before .if1 .left) (sym (c .before .before .before .before .before .before .before .before .before .before .before .starts-with .ensures) ∙ not-false _ (c .before .before .before .before .before .before .before .before .before .before .if2 .left)) (done-isDir G _ _ _ _ _ (rw p at (k .0)) (rw p at (k .1 res))))))

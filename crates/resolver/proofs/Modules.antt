@@ -1,0 +1,146 @@
+-- LOAD_NODE_MODULES: the code's steps as the definition's. Assumes nothing.
+use mathlib.Core.Path.{_≡_, refl, sym, _∙_, ap}
+use mathlib.Core.Bool.{Bool, true, false, not, _&&_, false≢true}
+use mathlib.Core.List.{List, [], _∷_}
+use Prim.Native.Nat.{ℕ, _≤_, _<_}
+use native.Mathlib.Omega.{arith}
+use borrow.Author.Tests.{eq-eqb, ne-eqb, le-leb, lt-leb}
+use lib.Dec.{eqb}
+use lib.ListN.{length, take}
+use Rattle.definition.specs.Text.{Text, text, equal, startsWith, endsWith}
+use Rattle.definition.specs.Path.{Built, normalizeWith, parent}
+use Rattle.definition.specs.Listing.{entryAt}
+use Rattle.definition.specs.Settings.{Settings}
+use Rattle.definition.specs.Ask.{Listing, Step, go, stop, Ask, ret, asked, _>>=_, _>>_}
+use Rattle.definition.specs.Manifest.{pathTooLong, refusalNumber}
+use Rattle.definition.specs.Called.{seenBy}
+use Rattle.definition.specs.Walk.{Look, when, unless, isDir, made, under, bare, LOAD-AS-FILE, LOAD-PACKAGE-EXPORTS, inScopeDir, goOn, asDirectory, asFileOrDirectory, inModules, inDirectory}
+use Rattle.path.specs.Meaning.{pathAt}
+use denote.Enum.Declared.{tagOf, declared}
+use Rattle.resolver.specs.declared.Ending.{Ending}
+use Rattle.resolver.specs.declared.Way.{Way}
+use Rattle.resolver.specs.declared.Way.the-variants.{Next, Stopped}
+use Rattle.resolver.specs.Tape.{Tape, put, Done, done-ret, done-bind, done-stop}
+use Rattle.resolver.specs.Meaning.{Sees, consultOf, numbers, stepOf}
+use Rattle.resolver.specs.Routines.{directoryOrFile, goingOf}
+use Rattle.resolver.proofs.Steps.{done-isDir, done-refuse}
+use Rattle.resolver.proofs.Ways.{ended, way-passed, way-onward}
+use Rattle.resolver.proofs.Way
+
+-- a path that was built, and what follows
+module _ {A : Type 0} {L : Listing Sees} {b : Built} (bytes : Text) (n : ℕ) (e : pathAt bytes n ≡ b) (f : Text → Look A) where
+  pub made-long : (s : Tape) → 2048 < n → Done L (made b >>= f) s s (stop (numbers 42 [] [] []))
+  unfolding made pathAt refusalNumber
+  made-long s h = rw (← e, lt-leb _ _ h) (done-stop _ (done-refuse pathTooLong s))
+
+  pub made-fits : {s s′ : Tape} {r : Step Ending A} → n ≤ 2048 → Done L (f (take n bytes)) s s′ r → Done L (made b >>= f) s s′ r
+  unfolding made pathAt
+  made-fits h d = rw (← e, le-leb _ _ h) (done-bind _ done-ret d)
+
+-- whether a path is a directory, and what follows
+module _ {A : Type 0} (G : Settings) (l p : Text) (s s₁ : Tape) (k : ℕ) (e : k ≡ asked (entryAt l p)) (d : s₁ ≡ put s (consultOf p k)) (f : Bool → Look A) {s₂ : Tape} {r : Step Ending A} where
+  pub by-state : Done (seenBy G l) (f (eqb k 1)) s₁ s₂ r → Done (seenBy G l) (isDir p >>= f) s s₂ r
+  by-state g = done-bind f (done-isDir G l p s s₁ k e d) g
+
+  pub is-dir : k ≡ 1 → Done (seenBy G l) (f true) s₁ s₂ r → Done (seenBy G l) (isDir p >>= f) s s₂ r
+  is-dir h g = by-state (rw (eq-eqb _ _ h) g)
+
+  pub no-dir : (k ≡ 1 → ⊥) → Done (seenBy G l) (f false) s₁ s₂ r → Done (seenBy G l) (isDir p >>= f) s s₂ r
+  no-dir h g = by-state (rw (ne-eqb _ _ h) g)
+
+-- where DIR/NAME is no directory
+module _ (G : Settings) {L : Listing Sees} (spec name sub q : Text) where
+  pub subpath-left : (s : Tape) → 0 < length sub → Done L (goOn G spec name sub q false) s s (go false)
+  subpath-left s h = by sub h
+    where
+      by : (u : Text) → 0 < length u → Done L (goOn G spec name u q false) s s (go false)
+      by [] h = absurd (omega arith)
+      by (x ∷ u) h = unfold goOn in done-ret
+
+  pub unscoped : (s : Tape) → length sub ≤ 0 → startsWith (text "@") name ≡ false → Done L (goOn G spec name sub q false) s s (go true)
+  unscoped s h e = by sub h
+    where
+      by : (u : Text) → length u ≤ 0 → Done L (goOn G spec name u q false) s s (go true)
+      by [] h = unfold goOn inScopeDir in rw e done-ret
+      by (x ∷ u) h = absurd (omega arith)
+
+  pub scoped : {s s₁ : Tape} {r : Step Ending Bool} → length sub ≤ 0 → startsWith (text "@") name ≡ true → Done L (isDir (parent q)) s s₁ r → Done L (goOn G spec name sub q false) s s₁ r
+  scoped {s} {s₁} {r} h e d = by sub h
+    where
+      by : (u : Text) → length u ≤ 0 → Done L (goOn G spec name u q false) s s₁ r
+      by [] h = unfold goOn inScopeDir in rw e d
+      by (x ∷ u) h = absurd (omega arith)
+
+-- LOAD_AS_FILE first, or not
+abbrev FileFirst : Settings → (spec name q : Text) → Look (Unit {0})
+FileFirst G spec name q = unless (equal spec name) (unless (endsWith (text "/") spec) (LOAD-AS-FILE G (bare q)))
+
+module _ (G : Settings) {L : Listing Sees} (spec name q : Text) where
+  file-skipped : {s : Tape} → (not (equal spec name) && not (endsWith (text "/") spec)) ≡ false → Done L (FileFirst G spec name q) s s (go tt)
+  unfolding unless
+  file-skipped {s} e = by (equal spec name) (endsWith (text "/") spec) e
+    where
+      by : (a b : Bool) → (not a && not b) ≡ false → Done L (unless a (unless b (LOAD-AS-FILE G (bare q)))) s s (go tt)
+      by true b e = done-ret
+      by false true e = done-ret
+      by false false e = absurd (false≢true (sym e))
+
+  file-tried : {s s₁ : Tape} {t : Step Ending (Unit {0})} → (not (equal spec name) && not (endsWith (text "/") spec)) ≡ true → Done L (LOAD-AS-FILE G (bare q)) s s₁ t → Done L (FileFirst G spec name q) s s₁ t
+  unfolding unless
+  file-tried {s} {s₁} {t} e d = by (equal spec name) (endsWith (text "/") spec) e
+    where
+      by : (a b : Bool) → (not a && not b) ≡ true → Done L (unless a (unless b (LOAD-AS-FILE G (bare q)))) s s₁ t
+      by true b e = absurd (false≢true e)
+      by false true e = absurd (false≢true e)
+      by false false e = d
+
+module _ (G : Settings) {L : Listing Sees} (spec name nm bytes : Text) (n : ℕ) (e : pathAt bytes n ≡ normalizeWith nm spec) where
+  pub both-long : (s : Tape) → 2048 < n → Done L (asFileOrDirectory G spec name nm) s s (stop (numbers 42 [] [] []))
+  unfolding asFileOrDirectory under
+  both-long s h = made-long bytes n e _ s h
+
+  module _ (h : n ≤ 2048) {s s₁ : Tape} where
+    pub directory-only : {r : Step Ending (Unit {0})} → (not (equal spec name) && not (endsWith (text "/") spec)) ≡ false → Done L (directoryOrFile G (take n bytes)) s s₁ r → Done L (asFileOrDirectory G spec name nm) s s₁ r
+    unfolding asFileOrDirectory under directoryOrFile _>>_
+    directory-only q d = made-fits bytes n e _ h (done-bind _ (file-skipped G spec name (take n bytes) q) d)
+
+    module _ (w : Way) (q : (not (equal spec name) && not (endsWith (text "/") spec)) ≡ true) (d : Done L (LOAD-AS-FILE G (bare (take n bytes))) s s₁ (stepOf w)) where
+      pub file-found : tagOf (declared Way.enum) w ≡ 1 → Done L (asFileOrDirectory G spec name nm) s s₁ (stepOf w)
+      unfolding asFileOrDirectory under _>>_
+      file-found z = made-fits bytes n e _ h (way-passed w _ (file-tried G spec name (take n bytes) q d) z)
+
+      pub then-directory : {s₂ : Tape} {r : Step Ending (Unit {0})} → w ≡ Next → Done L (directoryOrFile G (take n bytes)) s₁ s₂ r → Done L (asFileOrDirectory G spec name nm) s s₂ r
+      unfolding asFileOrDirectory under directoryOrFile _>>_
+      then-directory z g = made-fits bytes n e _ h (way-onward w _ (file-tried G spec name (take n bytes) q d) z g)
+
+-- where DIR/NAME is a directory: its exports, and then b. and c.
+pub exports-loaded : (G : Settings) {L : Listing Sees} (spec name sub q : Text) {s s₁ : Tape} (w : Way) → Done L (LOAD-PACKAGE-EXPORTS G spec sub q) s s₁ (stepOf w) → Done L (goOn G spec name sub q true) s s₁ (goingOf w true)
+unfolding goOn _>>_
+exports-loaded G spec name sub q Next d = done-bind _ d done-ret
+exports-loaded G spec name sub q (Stopped x) d = done-stop _ d
+
+-- one node_modules directory: DIR/NAME was asked for and its exports were loaded
+module _ (G : Settings) (spec name sub nm bytes : Text) (n : ℕ) (e : pathAt bytes n ≡ normalizeWith nm name) where
+  pub modules-long : {L : Listing Sees} (s : Tape) → 2048 < n → Done L (inModules G spec name sub nm) s s (stop (numbers 42 [] [] []))
+  unfolding inModules under
+  modules-long s h = made-long bytes n e _ s h
+
+  module _ (l : Text) (s s₁ : Tape) (k : ℕ) (a : k ≡ asked (entryAt l (take n bytes))) (d : s₁ ≡ put s (consultOf (take n bytes) k)) (h : n ≤ 2048) (w : Way) (more : Bool) {s₂ : Tape} (g : Done (seenBy G l) (goOn G spec name sub (take n bytes) (eqb k 1)) s₁ s₂ (goingOf w more)) where
+    going : {A : Type 0} {s₃ : Tape} {r : Step Ending A} (f : Bool → Look A) → Done (seenBy G l) (goOn G spec name sub (take n bytes) (eqb k 1) >>= f) s₁ s₃ r → Done (seenBy G l) (made (normalizeWith nm name) >>= λ q. isDir q >>= λ b. goOn G spec name sub q b >>= f) s s₃ r
+    going f z = made-fits bytes n e _ h (by-state G l (take n bytes) s s₁ k a d (λ b. goOn G spec name sub (take n bytes) b >>= f) z)
+
+    pub modules-ended : tagOf (declared Way.enum) w ≡ 1 → Done (seenBy G l) (inModules G spec name sub nm) s s₂ (stepOf w)
+    unfolding inModules under
+    modules-ended z = let x = ended w z in going _ (by w (x .0) (x .1) g)
+      where
+        by : (w : Way) (x : Ending) → stepOf w ≡ stop x → Done (seenBy G l) (goOn G spec name sub (take n bytes) (eqb k 1)) s₁ s₂ (goingOf w more) → Done (seenBy G l) (goOn G spec name sub (take n bytes) (eqb k 1) >>= λ m. when m (asFileOrDirectory G spec name nm)) s₁ s₂ (stepOf w)
+        by Next x e g = absurd (let z : _≡_ {A = ℕ} 0 1 = cc in omega arith)
+        by (Stopped y) x e g = done-stop _ g
+
+    pub modules-past : w ≡ Next → more ≡ false → Done (seenBy G l) (inModules G spec name sub nm) s s₂ (go tt)
+    unfolding inModules under when
+    modules-past z m = going _ (done-bind _ (rw (z, m) at g) done-ret)
+
+    pub modules-on : {s₃ : Tape} {r : Step Ending (Unit {0})} → w ≡ Next → more ≡ true → Done (seenBy G l) (asFileOrDirectory G spec name nm) s₂ s₃ r → Done (seenBy G l) (inModules G spec name sub nm) s s₃ r
+    unfolding inModules under when
+    modules-on z m f = going _ (done-bind _ (rw (z, m) at g) f)
