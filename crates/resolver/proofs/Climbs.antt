@@ -107,7 +107,7 @@ parent-take p = by (contains slash p) refl
     by false h = refl
 
 -- a first part of a first part
-prefix : (n : ℕ) (d q : Text) → q ≡ take (length q) (take n d) → take (length q) d ≡ q
+pub prefix : (n : ℕ) (d q : Text) → q ≡ take (length q) (take n d) → take (length q) d ≡ q
 prefix n d q e =
     let h : length q ≤ n = omega (arith, ap length e, length-take (length q) (take n d), length-take n d) in
     sym (e ∙ take-take (length q) n d h)

@@ -2,13 +2,14 @@
 use mathlib.Core.Path.{_≡_, refl, sym, _∙_, ap}
 use mathlib.Core.Bool.{Bool, true, false, not, _&&_, false≢true}
 use mathlib.Core.List.{List, [], _∷_}
-use Prim.Native.Nat.{ℕ, _≤_, _<_}
+use Prim.Native.Nat.{ℕ, zero, suc, _+_, _-_, _≤_, _<_}
 use native.Mathlib.Omega.{arith}
 use borrow.Author.Tests.{eq-eqb, ne-eqb, le-leb, lt-leb}
 use lib.Dec.{eqb}
 use lib.ListN.{length, take}
-use Rattle.definition.specs.Text.{Text, text, equal, startsWith, endsWith}
-use Rattle.definition.specs.Path.{Built, normalizeWith, parent}
+use lib.Seq.{take-all}
+use Rattle.definition.specs.Text.{Text, text, if_then_else_, slash, equal, startsWith, endsWith, count}
+use Rattle.definition.specs.Path.{Built, normalizeWith, parent, depth, climb, dirs}
 use Rattle.definition.specs.Listing.{entryAt}
 use Rattle.definition.specs.Settings.{Settings}
 use Rattle.definition.specs.Ask.{Listing, Step, go, stop, Ask, ret, asked, _>>=_, _>>_}
@@ -24,6 +25,7 @@ use Rattle.resolver.specs.Tape.{Tape, put, Done, done-ret, done-bind, do
 use Rattle.resolver.specs.Meaning.{Sees, consultOf, numbers, stepOf}
 use Rattle.resolver.specs.Routines.{directoryOrFile, goingOf}
 use Rattle.resolver.proofs.Steps.{done-isDir, done-refuse}
+use Rattle.resolver.proofs.Climbs.{prefix, parent-take}
 use Rattle.resolver.proofs.Ways.{ended, way-passed, way-onward}
 use Rattle.resolver.proofs.Way
 
@@ -144,3 +146,55 @@ module _ (G : Settings) (spec name sub nm bytes : Text) (n : ℕ) (e : pathAt by
     pub modules-on : {s₃ : Tape} {r : Step Ending (Unit {0})} → w ≡ Next → more ≡ true → Done (seenBy G l) (asFileOrDirectory G spec name nm) s₂ s₃ r → Done (seenBy G l) (inModules G spec name sub nm) s s₃ r
     unfolding inModules under when
     modules-on z m f = going _ (done-bind _ (rw (z, m) at g) f)
+
+-- THE CLIMB. The k directories from p on, p first
+abbrev pub climbed : ℕ → Text → List Text
+climbed zero p = []
+climbed (suc k) p = climb k p
+
+count-short : (b : ℕ) (p : Text) → count b p ≤ length p
+unfolding count
+count-short b [] = omega arith
+count-short b (x ∷ p) = by (eqb x b) (count-short b p)
+  where
+    by : (t : Bool) → count b p ≤ length p → (if t then 1 else 0) + count b p ≤ suc (length p)
+    by true h = omega arith
+    by false h = omega arith
+
+pub depth-short : (p : Text) → depth p ≤ length p
+unfolding depth
+depth-short p = by (equal p (text "/")) (count-short slash p)
+  where
+    by : (t : Bool) → count slash p ≤ length p → (if t then 0 else count slash p) ≤ length p
+    by true h = omega arith
+    by false h = h
+
+pub climbed-all : (d : Text) (k : ℕ) → k ≡ depth d + 1 → climbed k (take (length d) d) ≡ dirs d
+unfolding dirs
+climbed-all d zero e = absurd (omega arith)
+climbed-all d (suc k) e = let z : k ≡ depth d = omega arith in rw (z, take-all (length d) d (omega arith))
+
+climb-next : (k : ℕ) (p : Text) → climb k p ≡ p ∷ climbed k (parent p)
+unfolding climb
+climb-next zero p = refl
+climb-next (suc k) p = refl
+
+pub climbed-next : (d : Text) (k k′ n n′ : ℕ) → 0 < k → k′ ≡ k - 1 → n′ ≡ length (parent (take n d)) → climbed k (take n d) ≡ take n d ∷ climbed k′ (take n′ d)
+climbed-next d zero k′ n n′ h e f = absurd (omega arith)
+climbed-next d (suc k) k′ n n′ h e f =
+    let z : k′ ≡ k = omega arith in
+    let p : take n′ d ≡ parent (take n d) = rw f (prefix n d (parent (take n d)) (parent-take (take n d))) in
+    rw (z, p) (climb-next k (take n d))
+
+-- the module names, of which there is one: after none nothing is done, and after it all is
+pub record Names (L : Listing Sees) (n : ℕ) (t : Look (Unit {0})) (t₀ t₁ : Tape) : Type 0 where
+  pub none : n ≡ 0 → t₁ ≡ t₀
+  pub all : 0 < n → Done L t t₀ t₁ (go tt)
+
+-- what was done from the first tape on
+pub from-start : {L : Listing Sees} {t : Look (Unit {0})} {t₀ t₁ t₂ : Tape} {r : Step Ending (Unit {0})} → t₁ ≡ t₀ → Done L t t₁ t₂ r → Done L t t₀ t₂ r
+from-start e d = rw (← e) d
+
+pub climbed-none : (k : ℕ) (p : Text) → k ≤ 0 → climbed k p ≡ []
+climbed-none zero p h = refl
+climbed-none (suc k) p h = absurd (omega arith)

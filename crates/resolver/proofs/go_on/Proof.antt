@@ -1,4 +1,4 @@
-use mathlib.Core.Path.{refl, sym, _∙_}
+use borrow.Author.Tests.{not-true, not-false}
 use Rattle.resolver.proofs.Modules.{exports-loaded}
 use borrow.Author.Needs.{needs}
 use Rattle.resolver.proofs.go_on.Statement.{statement}
@@ -16,10 +16,12 @@ go-on-spec =
     (λ c. search needs)
     (λ c. search needs)
     (λ c. let w = c .before .before .before .before .without-directory .ensures in
-    rw (w .0, c .before .before .before .before .before .before .before .if1 .taken) (w .1 _ _ _))
+    let e = not-true (c .before .before .before .before .before .before .before .before .before .before .before .before .before .before .before .before .before .before .args .is-dir) (c .before .before .before .before .before .before .before .if1 .taken) in
+    rw (w .0, e) (w .1 _ _ _))
     (λ c κs. search needs)
     (λ c. search needs)
     (λ c. search needs)
     (λ c. search needs)
     (λ c. search needs)
-    (λ c. rw (c .before .before .before .before .before .before .before .before .before .before .before .before .before .before .if1 .left) (exports-loaded _ _ _ _ _ (c .before .before .before .before .before .before .before .before .before .load-package-exports .result .way) (c .before .before .before .before .before .before .before .before .before .load-package-exports .ensures))))
+    (λ c. let e = not-false (c .before .before .before .before .before .before .before .before .before .before .before .before .before .before .before .before .before .before .before .before .before .before .before .before .before .args .is-dir) (c .before .before .before .before .before .before .before .before .before .before .before .before .before .before .if1 .left) in
+    rw e (exports-loaded _ _ _ _ _ (c .before .before .before .before .before .before .before .before .before .load-package-exports .result .way) (c .before .before .before .before .before .before .before .before .before .load-package-exports .ensures))))
