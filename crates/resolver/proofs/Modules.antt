@@ -1,21 +1,23 @@
 -- LOAD_NODE_MODULES: the code's steps as the definition's. Assumes nothing.
 use mathlib.Core.Path.{_≡_, refl, sym, _∙_, ap}
-use mathlib.Core.Bool.{Bool, true, false, not, _&&_, false≢true}
+use mathlib.Core.Bool.{Bool, true, false, not, _&&_, _||_, false≢true}
 use mathlib.Core.List.{List, [], _∷_}
 use Prim.Native.Nat.{ℕ, zero, suc, _+_, _-_, _≤_, _<_}
 use native.Mathlib.Omega.{arith}
 use borrow.Author.Tests.{eq-eqb, ne-eqb, le-leb, lt-leb}
-use lib.Dec.{eqb}
+use lib.Dec.{eqb, leb}
 use lib.ListN.{length, take}
 use lib.Seq.{take-all}
-use Rattle.definition.specs.Text.{Text, text, if_then_else_, slash, equal, startsWith, endsWith, count}
-use Rattle.definition.specs.Path.{Built, normalizeWith, parent, depth, climb, dirs}
+use Rattle.definition.specs.Text.{Text, text, if_then_else_, slash, equal, startsWith, endsWith, containsText, count}
+use Rattle.definition.specs.Path.{Built, built, tooLong, andPath, limited, normalizeWith, parent, depth, climb, dirs}
+use Rattle.definition.specs.Specifier.{packageName, normalizedSpecifier, climbing}
+use Rattle.definition.specs.FitLaws.{normalized-short}
 use Rattle.definition.specs.Listing.{entryAt}
 use Rattle.definition.specs.Settings.{Settings}
 use Rattle.definition.specs.Ask.{Listing, Step, go, stop, Ask, ret, asked, _>>=_, _>>_}
 use Rattle.definition.specs.Manifest.{pathTooLong, refusalNumber}
 use Rattle.definition.specs.Called.{seenBy}
-use Rattle.definition.specs.Walk.{Look, when, unless, isDir, made, under, bare, LOAD-AS-FILE, LOAD-PACKAGE-EXPORTS, inScopeDir, goOn, asDirectory, asFileOrDirectory, inModules, inDirectory}
+use Rattle.definition.specs.Walk.{Look, when, unless, perhaps, isDir, made, under, bare, LOAD-AS-FILE, LOAD-PACKAGE-EXPORTS, inScopeDir, goOn, asDirectory, asFileOrDirectory, inModules, inDirectory}
 use Rattle.path.specs.Meaning.{pathAt}
 use denote.Enum.Declared.{tagOf, declared}
 use Rattle.resolver.specs.declared.Ending.{Ending}
@@ -198,3 +200,30 @@ from-start e d = rw (← e) d
 pub climbed-none : (k : ℕ) (p : Text) → k ≤ 0 → climbed k p ≡ []
 climbed-none zero p h = refl
 climbed-none (suc k) p h = absurd (omega arith)
+
+-- the second walk: the specifier does not go up twice, it stays in its package, or it is looked for under its normalised name
+module _ (spec : Text) (f : Text → Look (Unit {0})) {L : Listing Sees} where
+  pub stays : (s : Tape) (u : Bool) → u ≡ (containsText (text "/../..") spec || containsText (text "../../") spec) → u ≡ false → Done L (perhaps (climbing spec) f) s s (go tt)
+  unfolding climbing perhaps
+  stays s u e h = rw (sym e ∙ h) done-ret
+
+  module _ (u v : Bool) (e : u ≡ (containsText (text "/../..") spec || containsText (text "../../") spec)) (h : u ≡ true) (e′ : v ≡ equal (packageName (normalizedSpecifier spec)) (text "..")) where
+    pub stays-inside : (s : Tape) → v ≡ false → Done L (perhaps (climbing spec) f) s s (go tt)
+    unfolding climbing perhaps
+    stays-inside s k = rw (sym e ∙ h, sym e′ ∙ k) done-ret
+
+    pub climbs-out : {s s′ : Tape} {r : Step Ending (Unit {0})} → v ≡ true → Done L (f (normalizedSpecifier spec)) s s′ r → Done L (perhaps (climbing spec) f) s s′ r
+    unfolding climbing perhaps
+    climbs-out k d = rw (sym e ∙ h, sym e′ ∙ k) d
+
+-- a specifier of at most 512 bytes has a normalised one in the buffer
+pub normalized-here : (spec bytes : Text) (n : ℕ) → length spec ≤ 512 → pathAt bytes n ≡ andPath (limited spec) (λ p. limited (normalizedSpecifier p)) → take n bytes ≡ normalizedSpecifier spec
+unfolding limited pathAt
+normalized-here spec bytes n h e =
+    let k : length (normalizedSpecifier spec) ≤ 2048 = omega (arith, normalized-short 512 spec h) in
+    let z : pathAt bytes n ≡ built (normalizedSpecifier spec) = e ∙ rw (le-leb (length spec) 2048 (omega arith), le-leb (length (normalizedSpecifier spec)) 2048 k) in
+    by (leb n 2048) z
+  where
+    by : (t : Bool) → (if t then built (take n bytes) else tooLong) ≡ built (normalizedSpecifier spec) → take n bytes ≡ normalizedSpecifier spec
+    by true z = cc
+    by false z = absurd (let q : _≡_ {A = ℕ} 0 1 = cc in omega arith)

@@ -37,7 +37,7 @@ in-directory-spec =
     (λ c. let k = c .before .before .before .before .before .before .before .before .before .before .before .before .before .before .before .before .before .before .before .before .before .before .before .before .consult .ensures in
     let p = c .before .before .before .before .before .before .before .before .before .before .first .ensures in
     let j = c .before .before .before .before .before .before .before .consult2 .ensures in
-    is-dir _ _ _ _ _ _ (k .0) (k .1 _) _ (c .before .before .before .before .before .before .before .before .before .before .before .before .before .before .before .before .before .if1 .left) (made-fits _ _ (c .before .before .before .before .before .before .before .before .before .before .before .before .before .before .before .normalize-with .ensures) _ (c .before .before .before .before .before .before .before .before .before .before .before .before .before .before .if2 .left) (no-dir _ _ _ _ _ _ (rw p at (j .0)) (rw p at (j .1 _)) _ (c .if3 .taken) done-ret)))
+    is-dir _ _ _ _ _ _ (k .0) (k .1 _) _ (c .before .before .before .before .before .before .before .before .before .before .before .before .before .before .before .before .before .if1 .left) (made-fits _ _ (c .before .before .before .before .before .before .before .before .before .before .before .before .before .before .before .normalize-with .ensures) _ (c .before .before .before .before .before .before .before .before .before .before .before .before .before .before .if2 .left) (no-dir _ _ _ _ _ _ (rw p at (j .0)) (rw p at (j .1 (c .before .before .before .before .before .before .before .before .before .before .before .before .before .before .before .before .before .before .before .before .before .before .before .before .before .before .before .before .before .before .before .before .before .before .before .before .before .args .result .now))) _ (c .if3 .taken) done-ret)))
     (λ c κs. c .before .before .before .before .before .before .before .before .before .before .before .before .before .before .before .before .before .before .before .before .before .before .before .before .before .before .before .before .before .before .before .before .before .before .before .before .before .before .before .before .before .pre)
     (λ c. search needs)
     (λ c. c .before .before .before .before .before .before .before .before .in-modules .kept .1 .1 .1 .1 .1 .1 .1 .0 ∙ c .before .before .before .before .before .before .before .before .before .before .before .before .before .before .before .before .before .before .before .before .consult2 .kept .1 .1 .0 ∙ c .before .before .before .before .before .before .before .before .before .before .before .before .before .before .before .before .before .before .before .before .before .before .before .before .before .before .before .before .before .before .before .before .before .before .before .before .before .consult .kept .1 .1 .0)
@@ -46,4 +46,4 @@ in-directory-spec =
     (λ c. let k = c .before .before .before .before .before .before .before .before .before .before .before .before .before .before .before .before .before .before .before .before .before .before .before .before .before .before .before .before .before .before .before .before .before .before .before .before .before .consult .ensures in
     let p = c .before .before .before .before .before .before .before .before .before .before .before .before .before .before .before .before .before .before .before .before .before .before .before .first .ensures in
     let j = c .before .before .before .before .before .before .before .before .before .before .before .before .before .before .before .before .before .before .before .before .consult2 .ensures in
-    is-dir _ _ _ _ _ _ (k .0) (k .1 _) _ (c .before .before .before .before .before .before .before .before .before .before .before .before .before .before .before .before .before .before .before .before .before .before .before .before .before .before .before .before .before .before .if1 .left) (made-fits _ _ (c .before .before .before .before .before .before .before .before .before .before .before .before .before .before .before .before .before .before .before .before .before .before .before .before .before .before .before .before .normalize-with .ensures) _ (c .before .before .before .before .before .before .before .before .before .before .before .before .before .before .before .before .before .before .before .before .before .before .before .before .before .before .before .if2 .left) (is-dir _ _ _ _ _ _ (rw p at (j .0)) (rw p at (j .1 _)) _ (c .before .before .before .before .before .before .before .before .before .before .before .before .before .if3 .left) (rw p at (c .before .before .before .before .before .before .before .before .in-modules .ensures))))))
+    is-dir _ _ _ _ _ _ (k .0) (k .1 _) _ (c .before .before .before .before .before .before .before .before .before .before .before .before .before .before .before .before .before .before .before .before .before .before .before .before .before .before .before .before .before .before .if1 .left) (made-fits _ _ (c .before .before .before .before .before .before .before .before .before .before .before .before .before .before .before .before .before .before .before .before .before .before .before .before .before .before .before .before .normalize-with .ensures) _ (c .before .before .before .before .before .before .before .before .before .before .before .before .before .before .before .before .before .before .before .before .before .before .before .before .before .before .before .if2 .left) (is-dir _ _ _ _ _ _ (rw p at (j .0)) (rw p at (j .1 (c .before .before .before .before .before .before .before .before .before .before .before .before .before .before .before .before .before .before .before .before .before .before .before .before .before .before .before .before .before .before .before .before .before .before .before .before .before .before .before .before .before .before .before .before .before .before .before .before .before .before .args .result .now))) _ (c .before .before .before .before .before .before .before .before .before .before .before .before .before .if3 .left) (rw p at (c .before .before .before .before .before .before .before .before .in-modules .ensures))))))

@@ -1,3 +1,9 @@
+use mathlib.Core.Path.{_≡_, sym, _∙_, ap}
+use native.Mathlib.Omega.{arith}
+use borrow.Author.Tests.{not-true, not-false}
+use lib.ListN.{length}
+use Rattle.definition.specs.FitLaws.{normalized-short}
+use Rattle.resolver.proofs.Modules.{stays, stays-inside, climbs-out, normalized-here}
 use borrow.Author.Needs.{needs}
 use Rattle.resolver.proofs.load_climbing.Statement.{statement}
 use Rattle.resolver.proofs.load_climbing.Tie as tie
@@ -9,67 +15,22 @@ use Rattle.specifier.proofs.climbs.Reads as climbs-reads
 use Rattle.specifier.proofs.may_climb.Reads as may-climb-reads
 use Rattle.specifier.proofs.normalized.Reads as normalized-reads
 
--- src/lib.rt:1542:9
-may-climb-requires : tie.Need-may-climb-requires
-may-climb-requires c κs = search needs
-
--- src/lib.rt:1543:9
-returns : tie.Need-returns
-returns c = ?
-
--- src/lib.rt:1548:13
-normalized-requires : tie.Need-normalized-requires
-normalized-requires c κs = search needs
-
--- src/lib.rt:1550:9
-first-requires : tie.Need-first-requires
-first-requires c κs = search needs
-
--- src/lib.rt:1551:9
-climbs-requires : tie.Need-climbs-requires
-climbs-requires c κs = search needs
-
--- src/lib.rt:1552:9
-returns-2 : tie.Need-returns-2
-returns-2 c = ?
-
--- src/lib.rt:1557:5
-load-node-modules-requires : tie.Need-load-node-modules-requires
-load-node-modules-requires c κs = ?
-
--- src/lib.rt:1528:1
-same-length : tie.Need-same-length
-same-length c = search needs
-
--- src/lib.rt:1528:1
-same-length-2 : tie.Need-same-length-2
-same-length-2 c = search needs
-
--- src/lib.rt:1528:1
-same-length-3 : tie.Need-same-length-3
-same-length-3 c = search needs
-
--- src/lib.rt:1528:1
-same-length-4 : tie.Need-same-length-4
-same-length-4 c = search needs
-
--- src/lib.rt:1528:1
-returns-3 : tie.Need-returns-3
-returns-3 c = ?
-
 pub load-climbing-spec : {M : Type 1} → statement M
 load-climbing-spec =
     tie.close
     (tie.spec
-    may-climb-requires
-    returns
-    normalized-requires
-    first-requires
-    climbs-requires
-    returns-2
-    load-node-modules-requires
-    same-length
-    same-length-2
-    same-length-3
-    same-length-4
-    returns-3)
+    (λ c κs. search needs)
+    (λ c. stays _ _ _ (c .before .may-climb .result) (c .before .may-climb .ensures) (not-true (c .before .may-climb .result) (c .if1 .taken)))
+    (λ c κs. search needs)
+    (λ c κs. search needs)
+    (λ c κs. search needs)
+    (λ c. let p = c .before .before .first .ensures ∙ normalized-here _ _ _ (c .before .before .before .before .before .before .before .before .before .before .before .before .before .before .before .before .before .pre .1) (c .before .before .before .before .before .before .normalized .ensures) in
+    stays-inside _ _ (c .before .before .before .before .before .before .before .before .may-climb .result) (c .before .climbs .result) (c .before .before .before .before .before .before .before .before .may-climb .ensures) (not-false (c .before .before .before .before .before .before .before .before .may-climb .result) (c .before .before .before .before .before .before .before .if1 .left)) (rw p at (c .before .climbs .ensures)) _ (not-true (c .before .climbs .result) (c .if2 .taken)))
+    (λ c κs. let p = c .before .before .before .before .before .before .first .ensures ∙ normalized-here _ _ _ (c .before .before .before .before .before .before .before .before .before .before .before .before .before .before .before .before .before .before .before .before .before .pre .1) (c .before .before .before .before .before .before .before .before .before .before .normalized .ensures) in
+    (c .before .before .before .before .before .before .before .before .before .before .before .before .before .before .before .before .before .before .before .before .before .pre .0, rw p (omega (arith, normalized-short 512 (c .before .before .before .before .before .before .before .before .before .before .before .before .before .before .before .before .before .before .before .before .before .args .spec .now) (c .before .before .before .before .before .before .before .before .before .before .before .before .before .before .before .before .before .before .before .before .before .pre .1)))))
+    (λ c. search needs)
+    (λ c. search needs)
+    (λ c. search needs)
+    (λ c. search needs)
+    (λ c. let p = c .before .before .before .before .before .before .before .before .before .before .before .before .before .before .before .first .ensures ∙ normalized-here _ _ _ (c .before .before .before .before .before .before .before .before .before .before .before .before .before .before .before .before .before .before .before .before .before .before .before .before .before .before .before .before .before .before .pre .1) (c .before .before .before .before .before .before .before .before .before .before .before .before .before .before .before .before .before .before .before .normalized .ensures) in
+    climbs-out _ _ (c .before .before .before .before .before .before .before .before .before .before .before .before .before .before .before .before .before .before .before .before .before .may-climb .result) (c .before .before .before .before .before .before .before .before .before .before .before .before .before .before .climbs .result) (c .before .before .before .before .before .before .before .before .before .before .before .before .before .before .before .before .before .before .before .before .before .may-climb .ensures) (not-false (c .before .before .before .before .before .before .before .before .before .before .before .before .before .before .before .before .before .before .before .before .before .may-climb .result) (c .before .before .before .before .before .before .before .before .before .before .before .before .before .before .before .before .before .before .before .before .if1 .left)) (rw p at (c .before .before .before .before .before .before .before .before .before .before .before .before .before .before .climbs .ensures)) (not-false (c .before .before .before .before .before .before .before .before .before .before .before .before .before .before .climbs .result) (c .before .before .before .before .before .before .before .before .before .before .before .before .before .if2 .left)) (rw p at (c .before .before .before .before .before .before .before .before .load-node-modules .ensures))))
