@@ -1,6 +1,6 @@
+use mathlib.Core.List.{[]}
 use Rattle.definition.specs.Path.{dirs}
 use Rattle.definition.specs.Settings.{settingsOf}
-use mathlib.Core.List.{[]}
 use Rattle.resolver.proofs.Manifests.{sought-fits, nearest-none, nearest-found, nearest-stop}
 use borrow.Author.Needs.{needs}
 use Rattle.resolver.proofs.scope.Statement.{statement}
@@ -23,13 +23,18 @@ scope-spec =
     (λ c κs. search needs)
     (λ c. search needs)
     (λ c. search needs)
-    (λ c. (λ G. nearest-none G _ (rw (c .enum-told .given .1) at (c .before .before .before .before .before .before .before .find-package-json .ensures G _)), tt))
+    (λ c.
+    let a = c .before .before .before .before .before .before .before .before .before .before .before .before .before .before .before .args in
+    (λ G. nearest-none G _ (rw (c .enum-told .given .1) at (c .before .before .before .before .before .before .before .find-package-json .ensures G (a .result .now))), tt))
     (λ c. search needs)
     (λ c. search needs)
     (λ c. search needs)
     (λ c.
+    let a = c .before .before .before .before .before .before .before .before .before .before .before .before .before .before .before .before .before .before .before .before .args in
     let j = c .before .before .judge .ensures in
-    (λ G. nearest-found G _ _ (rw (c .before .before .before .before .before .near .given .1) at (c .before .before .before .before .before .before .before .before .before .before .before .before .find-package-json .ensures G _)) (j .0 G _ _), j .1))
+    (λ G. nearest-found G _ _ (rw (c .before .before .before .before .before .near .given .1) at (c .before .before .before .before .before .before .before .before .before .before .before .before .find-package-json .ensures G (a .result .now))) (j .0 G _ _), j .1))
     (λ c. search needs)
     (λ c. search needs)
-    (λ c. (λ G. rw (c .refuse .ensures) (nearest-stop G _ _ (rw (c .before .enum-told2 .given .1) at (c .before .before .before .before .before .before .before .before .find-package-json .ensures G _))), tt)))
+    (λ c.
+    let a = c .before .before .before .before .before .before .before .before .before .before .before .before .before .before .before .before .args in
+    (λ G. rw (c .refuse .ensures) (nearest-stop G _ _ (rw (c .before .enum-told2 .given .1) at (c .before .before .before .before .before .before .before .before .find-package-json .ensures G (a .result .now)))), tt)))
