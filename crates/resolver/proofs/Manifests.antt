@@ -3,9 +3,12 @@ use mathlib.Core.Path.{_≡_, refl, sym, _∙_, ap, fun-ext}
 use mathlib.Core.Bool.{Bool, true, false}
 use mathlib.Core.List.{List, [], _∷_, _++_, append-nil}
 use mathlib.Core.Option.{Option, none, some}
+use mathlib.Core.Logic.{⊎-elim}
 use Prim.Native.Nat.{ℕ, _≤_, _<_}
 use native.Mathlib.Omega.{arith}
 use borrow.Author.Tests.{le-leb, lt-leb, leb-true, eq-eqb, ne-eqb}
+use denote.Enum.Declared.{tagOf, declared}
+use types.Run.{OneOf}
 use lib.Dec.{leb}
 use lib.ListN.{length, take, drop, getD, length-take}
 use lib.Seq.{take-all}
@@ -22,9 +25,12 @@ use Rattle.definition.specs.Settings.{Settings, settingsOf}
 use Rattle.definition.specs.Ask.{State, Listing, Step, go, stop, Ask, ret, end, ask, read, stateOf, contentsOf, answer, _>>=_, _>>_}
 use Rattle.definition.specs.Manifest.{Manifest, End, stopped, failed, manifestBeyond, nameTwice, pathTooLong, refusalNumber, endNumber, endTexts, field, ifText, manifestView, viewOf, view}
 use Rattle.definition.specs.Called.{seenBy, joined}
-use Rattle.definition.specs.Walk.{Look, Scope, made, at, sound, mainPath, under, orAbove, nearest, ifOwn, own, LOAD-AS-FILE, LOAD-INDEX, loadMain}
+use Rattle.definition.specs.Walk.{Look, Scope, made, at, sound, mainPath, under, orAbove, nearest, ifOwn, own, perhaps, LOAD-AS-FILE, LOAD-INDEX, loadMain}
 use Rattle.package_json.specs.declared.Fault as code
-use Rattle.package_json.specs.Scanned.{faultOf}
+use Rattle.package_json.specs.declared.TextAt.{TextAt}
+use Rattle.package_json.specs.declared.TextAt.the-variants.{Manifest as InManifest, Work, Nothing}
+use Rattle.package_json.specs.Cursors.{textOf, orEmpty}
+use Rattle.package_json.proofs.TextAt as textAts
 use Rattle.path.specs.Meaning.{pathAt}
 use Rattle.resolver.specs.declared.Ending.{Ending}
 use Rattle.resolver.specs.declared.Mark.{Mark}
@@ -298,12 +304,17 @@ module _ (G : Settings) {L : Listing Sees} (p q f main bytes : Text) (n : ℕ) (
   unfolding loadMain under at _>>_
   main-fits h d = made-fits _ _ _ _ e h d
 
--- one main field: it has a text, or none
-module _ (m w : Text) (t : TextAt) where
-  pub text-there : tagOf (declared Rattle.package_json.proofs.TextAt.enum) t < 2 → textOf m w t ≡ some (orEmpty (textOf m w t))
-  text-there h = by t h
-    where
-      by : (t : TextAt) → tagOf (declared Rattle.package_json.proofs.TextAt.enum) t < 2 → textOf m w t ≡ some (orEmpty (textOf m w t))
-      by (Manifest i n) h = refl
-      by (Work n) h = refl
-      by Nothing h = absurd (omega arith)
+-- one main field: a text that was told, or none
+pub text-there : (m w : Text) (t : TextAt) → OneOf (0 ∷ 1 ∷ []) (tagOf (declared textAts.enum) t) → textOf m w t ≡ some (orEmpty (textOf m w t))
+text-there m w (InManifest i n) h = refl
+text-there m w (Work n) h = refl
+text-there m w Nothing h = absurd (⊎-elim (λ e. omega arith) (λ e. omega arith) h)
+
+module _ {L : Listing Sees} (f : Text → Look (Unit {0})) where
+  pub perhaps-none : {s : Tape} (o : Option Text) → none ≡ o → Done L (perhaps o f) s s (go tt)
+  unfolding perhaps
+  perhaps-none o e = rw (← e) done-ret
+
+  pub perhaps-some : {s s′ : Tape} {r : Step Ending (Unit {0})} (o : Option Text) (t : Text) → some t ≡ o → Done L (f t) s s′ r → Done L (perhaps o f) s s′ r
+  unfolding perhaps
+  perhaps-some o t e d = rw (← e) d
