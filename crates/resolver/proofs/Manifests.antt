@@ -9,7 +9,7 @@ use native.Mathlib.Omega.{arith}
 use borrow.Author.Tests.{le-leb, lt-leb, leb-true, eq-eqb, ne-eqb}
 use denote.Enum.Declared.{tagOf, declared}
 use types.Run.{OneOf}
-use lib.Dec.{leb}
+use lib.Dec.{eqb, leb}
 use lib.ListN.{length, take, drop, getD, length-take}
 use lib.Seq.{take-all}
 use Rattle.definition.specs.Text.{Text, text, if_then_else_, equal, startsWith}
@@ -23,9 +23,9 @@ use Rattle.definition.specs.Exports.{JsonError, failureNumber, failureTexts}
 use Rattle.definition.specs.ListingSteps.{part}
 use Rattle.definition.specs.Settings.{Settings, settingsOf}
 use Rattle.definition.specs.Ask.{State, Listing, Step, go, stop, Ask, ret, end, ask, read, stateOf, contentsOf, answer, _>>=_, _>>_}
-use Rattle.definition.specs.Manifest.{Manifest, End, stopped, failed, manifestBeyond, nameTwice, pathTooLong, refusalNumber, endNumber, endTexts, field, ifText, manifestView, viewOf, view}
+use Rattle.definition.specs.Manifest.{Place, Manifest, End, stopped, failed, manifestBeyond, nameTwice, pathTooLong, refusalNumber, endNumber, endTexts, field, ifText, manifestView, viewOf, view}
 use Rattle.definition.specs.Called.{seenBy, joined}
-use Rattle.definition.specs.Walk.{Look, Scope, made, at, sound, mainPath, under, orAbove, nearest, ifOwn, own, perhaps, LOAD-AS-FILE, LOAD-INDEX, loadMain}
+use Rattle.definition.specs.Walk.{Look, Scope, when, isDir, made, at, sound, mainPath, under, orAbove, nearest, ifOwn, own, perhaps, forEach, LOAD-AS-FILE, LOAD-INDEX, loadMain, LOAD-AS-DIRECTORY}
 use Rattle.package_json.specs.declared.Fault as code
 use Rattle.package_json.specs.declared.TextAt.{TextAt}
 use Rattle.package_json.specs.declared.TextAt.the-variants.{Manifest as InManifest, Work, Nothing}
@@ -39,8 +39,9 @@ use Rattle.resolver.specs.declared.Way.the-variants.{Next, Stopped}
 use Rattle.resolver.specs.declared.Package.{Package}
 use Rattle.resolver.specs.declared.Package.the-variants.{Nowhere, At}
 use Rattle.resolver.specs.Tape.{Tape, Done, endingOf, numbered, done-ret, done-bind, done-stop}
-use Rattle.resolver.specs.Meaning.{tapeOf, place, numbers, Sees, manifestIn, Sought, orFurther, seek}
-use Rattle.resolver.specs.Routines.{judged, valueOf, jsonOf, scopeOf, ownOf, Fits, Finishes}
+use Rattle.resolver.specs.Meaning.{tapeOf, place, stepOf, numbers, Sees, manifestIn, Sought, orFurther, seek}
+use Rattle.resolver.specs.Routines.{judged, valueOf, jsonOf, scopeOf, ownOf, Fits, mainField, Finishes}
+use Rattle.resolver.proofs.Way as ways
 use Rattle.resolver.proofs.Steps.{Ends, done-finish, done-refuse}
 use Rattle.resolver.proofs.Climbs.{manifest-built}
 
@@ -318,3 +319,28 @@ module _ {L : Listing Sees} (f : Text → Look (Unit {0})) where
   pub perhaps-some : {s s′ : Tape} {r : Step Ending (Unit {0})} (o : Option Text) (t : Text) → some t ≡ o → Done L (f t) s s′ r → Done L (perhaps o f) s s′ r
   unfolding perhaps
   perhaps-some o t e d = rw (← e) d
+
+-- LOAD_AS_DIRECTORY: the manifest ended the lookup, there is none, or its main fields follow
+module _ {L : Listing Sees} (G : Settings) (l : Text) {t : Look (Option Manifest)} {s s₁ : Tape} where
+  pub own-ended : (w : Way) (p : Package) (f : Option Manifest → Look (Unit {0})) → tagOf (declared ways.enum) w ≡ 1 → Done L t s s₁ (ownOf G l w p) → Done L (t >>= f) s s₁ (stepOf w)
+  own-ended Next p f h d = absurd (omega arith)
+  own-ended (Stopped x) p f h d = done-stop f d
+
+module _ {L : Listing Sees} (G : Settings) (w : Place) {s s₁ s₂ : Tape} {r : Step Ending (Unit {0})} where
+  pub directory-bare : Done L (own G (w .path)) s s₁ (go none) → Done L (LOAD-INDEX G w) s₁ s₂ r → Done L (LOAD-AS-DIRECTORY G w) s s₂ r
+  unfolding LOAD-AS-DIRECTORY perhaps _>>_
+  directory-bare d g = done-bind _ d (done-bind _ done-ret g)
+
+  pub directory-manifest : (j : Json) → Done L (own G (w .path)) s s₁ (go (some (manifestView G j))) → Done L (forEach (G .mainFields) (mainField G w j) >>= λ _. LOAD-INDEX G w) s₁ s₂ r → Done L (LOAD-AS-DIRECTORY G w) s s₂ r
+  unfolding LOAD-AS-DIRECTORY perhaps manifestView mainField _>>_
+  directory-manifest j d g = done-bind _ d g
+
+-- what is done only where a path is a directory
+module _ {L : Listing Sees} (p : Text) (t : Look (Unit {0})) (k : ℕ) {s s₁ : Tape} (d : Done L (isDir p) s s₁ (go (eqb k 1))) where
+  pub no-directory : (k ≡ 1 → ⊥) → Done L (isDir p >>= λ b. when b t) s s₁ (go tt)
+  unfolding when
+  no-directory h = done-bind _ (rw (ne-eqb _ _ h) at d) done-ret
+
+  pub in-directory : {s₂ : Tape} {r : Step Ending (Unit {0})} → k ≡ 1 → Done L t s₁ s₂ r → Done L (isDir p >>= λ b. when b t) s s₂ r
+  unfolding when
+  in-directory h g = done-bind _ (rw (eq-eqb _ _ h) at d) g
