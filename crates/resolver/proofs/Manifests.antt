@@ -20,13 +20,11 @@ use Rattle.definition.specs.Json.{Json, scalar, str, arr, obj, Read, got, fault
 use Rattle.definition.specs.JsonAt.{rooted, faulty, check, checkedBy, getAt, toldAt, textAt}
 use Rattle.definition.specs.JsonAtLaws.{Stands, Shape, text-shape, array-shape, object-shape, scalar-shape, shape, Finds, finds, finds-none, root-here, get-here, text-here, text-told}
 use Rattle.definition.specs.Exports.{JsonError, failureNumber, failureTexts}
-use Rattle.definition.specs.ListingSteps.{part}
-use Rattle.definition.specs.Settings.{Settings, settingsOf}
+use Rattle.definition.specs.Settings.{Settings}
 use Rattle.definition.specs.Ask.{State, Listing, Step, go, stop, Ask, ret, end, ask, read, stateOf, contentsOf, answer, _>>=_, _>>_}
 use Rattle.definition.specs.Manifest.{Place, Manifest, End, stopped, failed, manifestBeyond, nameTwice, pathTooLong, refusalNumber, endNumber, endTexts, field, ifText, manifestView, viewOf, view}
-use Rattle.definition.specs.Called.{seenBy, joined}
+use Rattle.definition.specs.Called.{joined}
 use Rattle.definition.specs.Walk.{Look, Scope, when, isDir, made, at, sound, mainPath, under, orAbove, nearest, ifOwn, own, perhaps, forEach, LOAD-AS-FILE, LOAD-INDEX, loadMain, LOAD-AS-DIRECTORY}
-use Rattle.package_json.specs.declared.Fault as code
 use Rattle.package_json.specs.declared.TextAt.{TextAt}
 use Rattle.package_json.specs.declared.TextAt.the-variants.{Manifest as InManifest, Work, Nothing}
 use Rattle.package_json.specs.Cursors.{textOf, orEmpty}
@@ -40,7 +38,7 @@ use Rattle.resolver.specs.declared.Package.{Package}
 use Rattle.resolver.specs.declared.Package.the-variants.{Nowhere, At}
 use Rattle.resolver.specs.Tape.{Tape, Done, endingOf, numbered, done-ret, done-bind, done-stop}
 use Rattle.resolver.specs.Meaning.{tapeOf, place, stepOf, numbers, Sees, manifestIn, Sought, orFurther, seek}
-use Rattle.resolver.specs.Routines.{judged, valueOf, jsonOf, scopeOf, ownOf, Fits, mainField, Finishes}
+use Rattle.resolver.specs.Routines.{judged, jsonOf, scopeOf, ownOf, Fits, mainField, Finishes}
 use Rattle.resolver.proofs.Way as ways
 use Rattle.resolver.proofs.Steps.{Ends, done-finish, done-refuse}
 use Rattle.resolver.proofs.Climbs.{manifest-built}
