@@ -1,3 +1,6 @@
+use mathlib.Core.List.{[]}
+use Rattle.definition.specs.Settings.{settingsOf}
+use Rattle.resolver.proofs.Manifests.{own-nowhere, own-here, own-above, own-fits, fits-nowhere}
 use borrow.Author.Needs.{needs}
 use Rattle.resolver.proofs.own.Statement.{statement}
 use Rattle.resolver.proofs.own.Tie as tie
@@ -5,82 +8,32 @@ use Rattle.resolver.proofs.own.Reads as reads
 use Rattle.resolver.proofs.own.Lts as lts
 use Rattle.resolver.proofs.scope.Reads as scope-reads
 
--- src/lib.rt:620:9
-scope-requires : tie.Need-scope-requires
-scope-requires c κs = search needs
-
--- src/lib.rt:623:14
-enum-known-package : tie.Need-enum-known-package
-enum-known-package c = search needs
-
--- src/lib.rt:629:9
-enum-told : tie.Need-enum-told
-enum-told c = search needs
-
--- src/lib.rt:629:9
-same-length : tie.Need-same-length
-same-length c = search needs
-
--- src/lib.rt:629:9
-same-length-2 : tie.Need-same-length-2
-same-length-2 c = search needs
-
--- src/lib.rt:629:9
-same-length-3 : tie.Need-same-length-3
-same-length-3 c = search needs
-
--- src/lib.rt:629:9
-returns : tie.Need-returns
-returns c = ?
-
--- src/lib.rt:632:9
-same-length-4 : tie.Need-same-length-4
-same-length-4 c = search needs
-
--- src/lib.rt:632:9
-same-length-5 : tie.Need-same-length-5
-same-length-5 c = search needs
-
--- src/lib.rt:632:9
-same-length-6 : tie.Need-same-length-6
-same-length-6 c = search needs
-
--- src/lib.rt:632:9
-returns-2 : tie.Need-returns-2
-returns-2 c = ?
-
--- src/lib.rt:608:1
-same-length-7 : tie.Need-same-length-7
-same-length-7 c = search needs
-
--- src/lib.rt:608:1
-same-length-8 : tie.Need-same-length-8
-same-length-8 c = search needs
-
--- src/lib.rt:608:1
-same-length-9 : tie.Need-same-length-9
-same-length-9 c = search needs
-
--- src/lib.rt:608:1
-returns-3 : tie.Need-returns-3
-returns-3 c = ?
-
 pub own-spec : {M : Type 1} → statement M
 own-spec =
     tie.close
     (tie.spec
-    scope-requires
-    enum-known-package
-    enum-told
-    same-length
-    same-length-2
-    same-length-3
-    returns
-    same-length-4
-    same-length-5
-    same-length-6
-    returns-2
-    same-length-7
-    same-length-8
-    same-length-9
-    returns-3)
+    (λ c κs. search needs)
+    (λ c. search needs)
+    (λ c. search needs)
+    (λ c. search needs)
+    (λ c. search needs)
+    (λ c. search needs)
+    (λ c.
+    let f = c .before .before .before .before .before .before .before .before .scope in
+    let e = c .enum-told .given .1 in
+    rw e (λ G. own-nowhere G _ _ (f .result .way) (rw e at (f .ensures .0 G)), (tt, fits-nowhere _ (f .result .way))))
+    (λ c. search needs)
+    (λ c. search needs)
+    (λ c. search needs)
+    (λ c.
+    let f = c .before .before .before .before .before .before .before .before .before .before .scope in
+    let p = c .before .before .package .given in
+    let m = c .if1 .taken in
+    (rw (p .1) (λ G. own-here G _ _ (f .result .way) _ _ _ _ (rw (p .1) at (f .ensures .0 G)) m), (f .ensures .1, rw (p .1) (own-fits (settingsOf []) _ _ (f .result .way) _ _ _ _ (rw (p .1) at (f .ensures .0 (settingsOf []))) m))))
+    (λ c. search needs)
+    (λ c. search needs)
+    (λ c. search needs)
+    (λ c.
+    let f = c .before .before .before .before .before .before .before .before .before .before .before .scope in
+    let e = c .before .before .before .package .given .1 in
+    (λ G. own-above G _ _ (f .result .way) _ _ _ _ (rw e at (f .ensures .0 G)) (c .before .if1 .left), (tt, fits-nowhere _ (f .result .way)))))
