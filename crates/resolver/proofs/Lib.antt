@@ -3,3 +3,4 @@ pub mod Steps
 pub mod Climbs
 pub mod Files
 pub mod Ways
+pub mod Matches
