@@ -3,4 +3,5 @@ pub mod Steps
 pub mod Climbs
 pub mod Files
 pub mod Ways
+pub mod Manifests
 pub mod Matches

@@ -3,51 +3,39 @@ use mathlib.Core.Path.{_≡_, refl, sym, _∙_, ap, fun-ext}
 use mathlib.Core.Bool.{Bool, true, false}
 use mathlib.Core.List.{List, [], _∷_, _++_, append-nil}
 use mathlib.Core.Option.{Option, none, some}
-use Prim.Native.Nat.{ℕ, _≤_, _<_}
+use Prim.Native.Nat.{ℕ, _+_, _-_, _≤_, _<_}
 use native.Mathlib.Omega.{arith}
-use borrow.Author.Tests.{le-leb}
-use lib.Dec.{leb}
 use denote.Enum.Declared.{tagOf, declared}
 use lib.ListN.{length, getD, drop, take}
-use Rattle.definition.specs.Text.{Text, if_then_else_, overwrite}
-use Rattle.definition.specs.Path.{Built, built, tooLong, andPath, limited, manifestOf}
+use lib.Seq.{take-all, take-append-le}
+use Rattle.definition.specs.Text.{Text, text, if_then_else_, startsWith, overwrite}
+use Rattle.definition.specs.Specifier.{dotSubpath}
 use Rattle.definition.specs.Json.{Json, Read, got, fault, quoted}
 use Rattle.definition.specs.JsonAt.{textAt, toldAt, getAt}
 use Rattle.definition.specs.JsonAtLaws.{Stands, Finds, finds, finds-none, get-here, text-told}
-use Rattle.definition.specs.Exports.{Failure, NotFound, Empty, InvalidPackageTarget, PackagePathNotExported, InvalidPackageConfig, InvalidPackageConfigDirectory, JsonError, failureNumber, failureTexts}
+use Rattle.definition.specs.Exports as exports
+use Rattle.definition.specs.Exports.{Failure, NotFound, Empty, InvalidPackageTarget, PackagePathNotExported, InvalidPackageConfig, InvalidPackageConfigDirectory, JsonError, failureNumber, failureTexts, PACKAGE-EXPORTS-RESOLVE}
 use Rattle.definition.specs.Ask.{Listing, Step, go, stop, Ask, ret, end, ask, read, _>>=_, _>>_}
-use Rattle.definition.specs.Manifest.{End, stopped, failed, Place, endNumber, endTexts, field, orFirst, firstField}
+use Rattle.definition.specs.Manifest.{End, stopped, failed, Place, endNumber, endTexts, field, orFirst, firstField, fresh, resolvedTo, resolveExports, exportsOf, manifestView}
 use Rattle.definition.specs.Called.{joined}
 use Rattle.definition.specs.Settings.{Settings}
-use Rattle.definition.specs.Walk.{Look, given, never, notFound, isDir, when, LOAD-AS-FILE, LOAD-AS-DIRECTORY, RESOLVE-ESM-MATCH}
+use Rattle.definition.specs.Walk.{Look, perhaps, given, never, notFound, isDir, when, LOAD-AS-FILE, LOAD-AS-DIRECTORY, RESOLVE-ESM-MATCH, byExports}
 use Rattle.package_json.proofs.Cursor as cursor
 use Rattle.package_json.specs.declared.Cursor.{Cursor}
 use Rattle.package_json.specs.declared.Cursor.the-variants.{At, Nothing}
 use Rattle.package_json.specs.Cursors.{placed, orEmpty}
-use Rattle.path.specs.Meaning.{pathAt}
+use Rattle.exports.specs.Chosen as chosen
 use Rattle.exports.specs.Chosen.{readText}
 use Rattle.resolver.specs.declared.Ending.{Ending}
 use Rattle.resolver.specs.declared.Mark.{Mark}
 use Rattle.resolver.specs.declared.Way.{Way}
 use Rattle.resolver.specs.declared.Way.the-variants.{Next, Stopped}
-use Rattle.resolver.specs.Tape.{Tape, Done, endingOf, done-bind, done-stop}
-use Rattle.resolver.specs.Meaning.{tapeOf, numbers, stepOf, Sees}
-use Rattle.resolver.specs.Routines.{Finishes, ifDirectory}
+use Rattle.resolver.specs.Tape.{Tape, Done, endingOf, done-ret, done-bind, done-stop}
+use Rattle.resolver.specs.Meaning.{tapeOf, stepOf, place, Sees}
+use Rattle.resolver.specs.Routines.{Finishes, ifDirectory, foundOf, matchExports}
 use Rattle.resolver.proofs.Way as way
 use Rattle.resolver.proofs.Steps.{Ends, done-finish}
-use Rattle.resolver.proofs.Climbs.{manifest-built}
 use Rattle.resolver.proofs.Ways.{ended, onward, way-ended, way-onward}
-
--- the path of a manifest, where it is within the limit
-pub manifest-text : (d bytes : Text) (n : ℕ) → pathAt bytes n ≡ andPath (limited d) (λ p. limited (manifestOf p)) → length (manifestOf d) ≤ 2048 → take n bytes ≡ manifestOf d
-unfolding pathAt limited
-manifest-text d bytes n b h =
-    let e : limited (manifestOf d) ≡ built (manifestOf d) = rw (le-leb _ _ h) in
-    by (leb n 2048) (b ∙ manifest-built d ∙ e)
-  where
-    by : (t : Bool) → (if t then built (take n bytes) else tooLong) ≡ built (manifestOf d) → take n bytes ≡ manifestOf d
-    by true e = cc
-    by false e = cc
 
 -- THE TEXTS OF AN ERROR. The text of a key, which is read once more
 pub key-read : (s w : Text) → 1024 ≤ length w → orEmpty (textAt s w .text) ≡ readText (quoted s)
@@ -137,3 +125,49 @@ module _ (m : Text) (root : ℕ) (l₀ : List Text) where
     passed-here t j h =
         let z : orFirst (field j k) (firstField j l′) ≡ firstField j l₀ = rw e at (p j h) in
         rw (sym z) (finds-first _ (rw (sym g) at (get-here k h)) (placed-there m c t))
+
+-- PACKAGE_EXPORTS_RESOLVE, and how the code says that it ended
+module _ (G : Settings) (spec dir sub : Text) (j : Json) (x : exports.Resolved) (e : x ≡ PACKAGE-EXPORTS-RESOLVE dir (G .conditions) sub j chosen.fresh)
+    {L : Listing Sees} {s s₁ : Tape} (t : Text) (w : Way) (d : Done L (given (resolvedTo (x .context) dir sub (x .outcome))) s s₁ (foundOf (x .context) t w)) where
+  pub exports-ended : tagOf (declared way.enum) w ≡ 1 → Done L (matchExports G spec dir sub j) s s₁ (stepOf w)
+  unfolding matchExports resolveExports fresh
+  exports-ended h = rw (← e) (by w d h)
+    where
+      by : (w : Way) → Done L (given (resolvedTo (x .context) dir sub (x .outcome))) s s₁ (foundOf (x .context) t w) → tagOf (declared way.enum) w ≡ 1 → Done L (given (resolvedTo (x .context) dir sub (x .outcome)) >>= λ p. never (RESOLVE-ESM-MATCH G spec p)) s s₁ (stepOf w)
+      by Next d h = absurd (omega arith)
+      by (Stopped n) d h = done-stop _ d
+
+  pub exports-found : {s₂ : Tape} {r : Step Ending (Unit {0})} → w ≡ Next → Done L (never (RESOLVE-ESM-MATCH G spec (place t (x .context .query) (x .context .fragment)))) s₁ s₂ r → Done L (matchExports G spec dir sub j) s s₂ r
+  unfolding matchExports resolveExports fresh
+  exports-found n g = rw (← e) (done-bind _ (rw n at d) g)
+
+-- LOAD_PACKAGE_EXPORTS, 4. to 6.: the subpath with a ".", in a buffer that has room for it
+dotted-longer : (sub : Text) → length (dotSubpath sub) ≤ length sub + 1
+unfolding dotSubpath
+dotted-longer sub = by (startsWith (text ".") sub)
+  where
+    by : (t : Bool) → length (if t then sub else text "." ++ sub) ≤ length sub + 1
+    by true = omega arith
+    by false = omega arith
+
+first-text : (t d : Text) → length t ≤ length d → take (length t) (overwrite 0 t d) ≡ t
+unfolding overwrite
+first-text t d h =
+    let z : length d - 0 ≡ length d = omega arith in
+    rw (z, take-all (length d) t h, take-append-le (length t) t (drop (0 + length t) d) (omega arith)) (take-all (length t) t (omega arith))
+
+pub dotted-text : (sub d e : Text) (n : ℕ) → length sub < length d → n ≡ length (dotSubpath sub) → e ≡ overwrite 0 (dotSubpath sub) d → take n e ≡ dotSubpath sub
+dotted-text sub d e n h k o = rw (o, k) (first-text (dotSubpath sub) d (omega (arith, dotted-longer sub)))
+
+-- without an exports field, and with one
+module _ (G : Settings) (spec dir sub : Text) (j : Json) (m : Text) (c : Cursor) (f : Finds 15 (firstField j (G .exportsFields)) (placed m c)) {L : Listing Sees} {s : Tape} where
+  pub exports-missing : c ≡ Nothing → Done L (byExports G spec dir sub (manifestView G j)) s s (go tt)
+  unfolding byExports manifestView exportsOf perhaps
+  exports-missing e = rw (finds-not f (ap (placed m) e)) done-ret
+
+  pub exports-there : {s′ : Tape} {r : Step Ending (Unit {0})} (i : ℕ) → c ≡ At i → ((k : Json) → Stands 15 (drop i m) k → Done L (matchExports G spec dir (dotSubpath sub) k) s s′ r) → Done L (byExports G spec dir sub (manifestView G j)) s s′ r
+  unfolding byExports manifestView exportsOf perhaps matchExports
+  exports-there {s′} {r} i e g = by (rw e at f)
+    where
+      by : {o : Option Json} → Finds 15 o (some (drop i m)) → Done L (perhaps (exportsOf G o) λ resolve. given (resolve dir (dotSubpath sub)) >>= λ w. never (RESOLVE-ESM-MATCH G spec w)) s s′ r
+      by (finds {j = k} h) = g k h

@@ -1,3 +1,5 @@
+use Rattle.definition.specs.Called.{seenBy}
+use Rattle.resolver.proofs.Manifests.{root-told, fault-told, judged-root, judged-fault}
 use borrow.Author.Needs.{needs}
 use Rattle.resolver.proofs.judge.Statement.{statement}
 use Rattle.resolver.proofs.judge.Tie as tie
@@ -8,52 +10,22 @@ use Rattle.package_json.proofs.check.Reads as check-reads
 use Rattle.path.proofs.first.Reads as first-reads
 use Rattle.resolver.proofs.fault_ending.Reads as fault-ending-reads
 
--- src/lib.rt:551:39
-contents-requires : tie.Need-contents-requires
-contents-requires c κs = search needs
-
--- src/lib.rt:551:9
-check-requires : tie.Need-check-requires
-check-requires c κs = search needs
-
--- src/lib.rt:553:37
-enum-known-checked : tie.Need-enum-known-checked
-enum-known-checked c = search needs
-
--- src/lib.rt:563:38
-enum-known-checked-2 : tie.Need-enum-known-checked-2
-enum-known-checked-2 c = search needs
-
--- src/lib.rt:564:47
-first-requires : tie.Need-first-requires
-first-requires c κs = search needs
-
--- src/lib.rt:564:31
-fault-ending-requires : tie.Need-fault-ending-requires
-fault-ending-requires c κs = ?
-
--- src/lib.rt:538:1
-returns : tie.Need-returns
-returns c = ?
-
--- src/lib.rt:538:1
-same-length : tie.Need-same-length
-same-length c = search needs
-
--- src/lib.rt:538:1
-returns-2 : tie.Need-returns-2
-returns-2 c = ?
-
 pub judge-spec : {M : Type 1} → statement M
 judge-spec =
     tie.close
     (tie.spec
-    contents-requires
-    check-requires
-    enum-known-checked
-    enum-known-checked-2
-    first-requires
-    fault-ending-requires
-    returns
-    same-length
-    returns-2)
+    (λ c κs. search needs)
+    (λ c κs. search needs)
+    (λ c. search needs)
+    (λ c. search needs)
+    (λ c κs. search needs)
+    (λ c κs. rw (c .before .first .ensures) (c .before .before .before .before .before .before .before .before .before .before .pre))
+    (λ c.
+    let r = c .before .checked .given in
+    let k = root-told _ (r .0 .0) (rw (c .before .before .before .before .contents .ensures, r .1) at (c .before .before .before .check .ensures)) in
+    (λ G ns t. judged-root _ _ _ (k .seen G), k .stands))
+    (λ c. search needs)
+    (λ c.
+    let a = c .before .before .before .before .before .before .before .before .before .before .before .before .before .args in
+    let e = rw (c .before .before .before .before .before .before .before .before .before .contents .ensures, c .before .before .before .before .before .before .checked2 .given .1) at (c .before .before .before .before .before .before .before .before .check .ensures) in
+    (λ G ns t. judged-fault _ _ _ (fault-told G _ _ e) (rw (c .before .before .before .before .first .ensures) at (c .before .before .fault-ending .ensures (seenBy G (a .l .now)) ns t (a .m))), tt)))

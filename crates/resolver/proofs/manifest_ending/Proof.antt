@@ -1,3 +1,6 @@
+use mathlib.Core.Path.{_∙_, ap}
+use Rattle.definition.specs.Path.{andPath, limited, manifestOf}
+use Rattle.resolver.proofs.Manifests.{manifest-path}
 use borrow.Author.Needs.{needs}
 use Rattle.resolver.proofs.manifest_ending.Statement.{statement}
 use Rattle.resolver.proofs.manifest_ending.Tie as tie
@@ -8,47 +11,18 @@ use Rattle.path.proofs.PathBuf.push_manifest.Reads as push-manifest-reads
 use Rattle.path.proofs.first.Reads as first-reads
 use Rattle.resolver.proofs.finish.Reads as finish-reads
 
--- src/lib.rt:509:13
-from-requires : tie.Need-from-requires
-from-requires c κs = search needs
-
--- src/lib.rt:509:13
-push-manifest-requires : tie.Need-push-manifest-requires
-push-manifest-requires c κs = search needs
-
--- src/lib.rt:511:20
-first-requires : tie.Need-first-requires
-first-requires c κs = search needs
-
--- src/lib.rt:511:46
-slice-aggregate-finish : tie.Need-slice-aggregate-finish
-slice-aggregate-finish c = search needs
-
--- src/lib.rt:511:51
-slice-aggregate-finish-2 : tie.Need-slice-aggregate-finish-2
-slice-aggregate-finish-2 c = search needs
-
--- src/lib.rt:511:5
-finish-requires : tie.Need-finish-requires
-finish-requires c κs = search needs
-
--- src/lib.rt:505:1
-same-length : tie.Need-same-length
-same-length c = search needs
-
--- src/lib.rt:505:1
-returns : tie.Need-returns
-returns c = ?
-
 pub manifest-ending-spec : {M : Type 1} → statement M
 manifest-ending-spec =
     tie.close
     (tie.spec
-    from-requires
-    push-manifest-requires
-    first-requires
-    slice-aggregate-finish
-    slice-aggregate-finish-2
-    finish-requires
-    same-length
-    returns)
+    (λ c κs. search needs)
+    (λ c κs. search needs)
+    (λ c κs. search needs)
+    (λ c. search needs)
+    (λ c. search needs)
+    (λ c κs. search needs)
+    (λ c. search needs)
+    (λ c.
+    let b = c .before .before .before .before .before .before .before .before .before .before .push-manifest .ensures ∙ ap (λ x. andPath x (λ p. limited (manifestOf p))) (c .before .before .before .before .before .before .before .before .before .before .before .from .ensures) in
+    let p = c .before .before .before .before .before .before .first .ensures ∙ manifest-path _ _ _ b (c .before .before .before .before .before .before .before .before .before .before .before .before .before .before .pre) in
+    record { ending = rw p at (c .before .before .finish .ensures .0); texts = rw p at (c .before .before .finish .ensures .1) }))
