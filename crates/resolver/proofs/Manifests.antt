@@ -3,28 +3,32 @@ use mathlib.Core.Path.{_≡_, refl, sym, _∙_, ap, fun-ext}
 use mathlib.Core.Bool.{Bool, true, false}
 use mathlib.Core.List.{List, [], _∷_, _++_, append-nil}
 use mathlib.Core.Option.{Option, none, some}
+use mathlib.Core.Logic.{⊎-elim}
 use Prim.Native.Nat.{ℕ, _≤_, _<_}
 use native.Mathlib.Omega.{arith}
-use borrow.Author.Tests.{le-leb, leb-true}
-use lib.Dec.{leb}
-use lib.ListN.{length, take, drop, length-take}
+use borrow.Author.Tests.{le-leb, lt-leb, leb-true, eq-eqb, ne-eqb}
+use denote.Enum.Declared.{tagOf, declared}
+use types.Run.{OneOf}
+use lib.Dec.{eqb, leb}
+use lib.ListN.{length, take, drop, getD, length-take}
 use lib.Seq.{take-all}
-use Rattle.definition.specs.Text.{Text, if_then_else_, equal}
+use Rattle.definition.specs.Text.{Text, text, if_then_else_, equal, startsWith}
 use Rattle.definition.specs.TextLaws.{equal-refl}
 use Rattle.definition.specs.TextSteps.{equal-lengths}
-use Rattle.definition.specs.Path.{Built, built, tooLong, andPath, limited, manifestOf, dirs}
-use Rattle.definition.specs.Json.{Json, Read, got, fault, Fault, malformed, beyond, twice, skipSpace, replaceBom, parse}
-use Rattle.definition.specs.JsonAt.{rooted, faulty, check, checkedBy}
-use Rattle.definition.specs.JsonAtLaws.{Stands, root-here}
+use Rattle.definition.specs.Path.{Built, built, tooLong, andPath, limited, normalizeWith, manifestOf, dirs}
+use Rattle.definition.specs.Json.{Json, scalar, str, arr, obj, Read, got, fault, Fault, malformed, beyond, twice, skipSpace, quoted, replaceBom, parse}
+use Rattle.definition.specs.JsonAt.{rooted, faulty, check, checkedBy, getAt, toldAt, textAt}
+use Rattle.definition.specs.JsonAtLaws.{Stands, Shape, text-shape, array-shape, object-shape, scalar-shape, shape, Finds, finds, finds-none, root-here, get-here, text-here, text-told}
 use Rattle.definition.specs.Exports.{JsonError, failureNumber, failureTexts}
-use Rattle.definition.specs.ListingSteps.{part}
-use Rattle.definition.specs.Settings.{Settings, settingsOf}
-use Rattle.definition.specs.Ask.{State, Listing, Step, go, stop, Ask, ret, end, ask, read, stateOf, contentsOf, answer, _>>=_}
-use Rattle.definition.specs.Manifest.{Manifest, End, stopped, failed, manifestBeyond, nameTwice, refusalNumber, endNumber, endTexts, manifestView, viewOf, view}
-use Rattle.definition.specs.Called.{seenBy, joined}
-use Rattle.definition.specs.Walk.{Look, Scope, made, sound, orAbove, nearest, ifOwn, own}
-use Rattle.package_json.specs.declared.Fault as code
-use Rattle.package_json.specs.Scanned.{faultOf}
+use Rattle.definition.specs.Settings.{Settings}
+use Rattle.definition.specs.Ask.{State, Listing, Step, go, stop, Ask, ret, end, ask, read, stateOf, contentsOf, answer, _>>=_, _>>_}
+use Rattle.definition.specs.Manifest.{Place, Manifest, End, stopped, failed, manifestBeyond, nameTwice, pathTooLong, refusalNumber, endNumber, endTexts, field, ifText, manifestView, viewOf, view}
+use Rattle.definition.specs.Called.{joined}
+use Rattle.definition.specs.Walk.{Look, Scope, when, isDir, made, at, sound, mainPath, under, orAbove, nearest, ifOwn, own, perhaps, forEach, LOAD-AS-FILE, LOAD-INDEX, loadMain, LOAD-AS-DIRECTORY}
+use Rattle.package_json.specs.declared.TextAt.{TextAt}
+use Rattle.package_json.specs.declared.TextAt.the-variants.{Manifest as InManifest, Work, Nothing}
+use Rattle.package_json.specs.Cursors.{textOf, orEmpty}
+use Rattle.package_json.proofs.TextAt as textAts
 use Rattle.path.specs.Meaning.{pathAt}
 use Rattle.resolver.specs.declared.Ending.{Ending}
 use Rattle.resolver.specs.declared.Mark.{Mark}
@@ -33,8 +37,9 @@ use Rattle.resolver.specs.declared.Way.the-variants.{Next, Stopped}
 use Rattle.resolver.specs.declared.Package.{Package}
 use Rattle.resolver.specs.declared.Package.the-variants.{Nowhere, At}
 use Rattle.resolver.specs.Tape.{Tape, Done, endingOf, numbered, done-ret, done-bind, done-stop}
-use Rattle.resolver.specs.Meaning.{tapeOf, numbers, Sees, manifestIn, Sought, orFurther, seek}
-use Rattle.resolver.specs.Routines.{judged, valueOf, jsonOf, scopeOf, ownOf, Fits, Finishes}
+use Rattle.resolver.specs.Meaning.{tapeOf, place, stepOf, numbers, Sees, manifestIn, Sought, orFurther, seek}
+use Rattle.resolver.specs.Routines.{judged, jsonOf, scopeOf, ownOf, Fits, mainField, Finishes}
+use Rattle.resolver.proofs.Way as ways
 use Rattle.resolver.proofs.Steps.{Ends, done-finish, done-refuse}
 use Rattle.resolver.proofs.Climbs.{manifest-built}
 
@@ -229,3 +234,111 @@ module _ {L : Listing Sees} (G : Settings) (l dir : Text) {s s′ : Tape} (w : W
 pub fits-nowhere : (dir : Text) (w : Way) → Fits dir w Nowhere
 fits-nowhere dir Next = tt
 fits-nowhere dir (Stopped x) = tt
+
+-- THE TEXT OF A MEMBER
+other-byte : (s w : Text) (b : ℕ) (u : Text) → s ≡ b ∷ u → (b ≡ 34 → ⊥) → textAt s w .text ≡ none
+unfolding textAt toldAt quoted
+other-byte s w b u e n = rw (e, ne-eqb b 34 n)
+
+no-text : {d : ℕ} {j : Json} {r s : Text} (w : Text) → Shape d j r s → ((t : Text) → j ≡ str t → ⊥) → textAt s w .text ≡ none
+no-text w (text-shape t u e k f) h = absurd (h t k)
+no-text w (array-shape p u e q f) h = other-byte _ w 91 u e (λ z. omega arith)
+no-text w (object-shape p u e q f) h = other-byte _ w 123 u e (λ z. omega arith)
+no-text w (scalar-shape b u e n1 n2 n3 k i) h = other-byte _ w b u e n1
+
+value-text : {d : ℕ} {s : Text} (w : Text) (j : Json) → Stands d s j → 1024 ≤ length w → textAt s w .text ≡ ifText (some j)
+unfolding ifText
+value-text w scalar h l = no-text w (shape _ _ _ _ (h .reads)) (λ t e. let z : _≡_ {A = ℕ} 0 1 = cc in omega arith)
+value-text w (str t) h l = text-told _ w t (h .rest) l (text-here h)
+value-text w (arr js) h l = no-text w (shape _ _ _ _ (h .reads)) (λ t e. let z : _≡_ {A = ℕ} 0 1 = cc in omega arith)
+value-text w (obj ms) h l = no-text w (shape _ _ _ _ (h .reads)) (λ t e. let z : _≡_ {A = ℕ} 0 1 = cc in omega arith)
+
+module _ (m k : Text) (root : ℕ) (j : Json) (h : Stands 16 (drop root m) j) where
+  pub field-text : (w : Text) (i : ℕ) → 1024 ≤ length w → some (drop i m) ≡ getAt k (drop root m) → textAt (drop i m) w .text ≡ ifText (field j k)
+  field-text w i l e = by (get-here k h) e
+    where
+      by : {o : Option Json} {c : Option Text} → Finds 15 o c → some (drop i m) ≡ c → textAt (drop i m) w .text ≡ ifText o
+      by (finds {s} {j = v} st) e = let z : drop i m ≡ s = cc in rw z (value-text w v st l)
+      by finds-none e = cc
+
+  pub field-none : none ≡ getAt k (drop root m) → none ≡ ifText (field j k)
+  field-none e = by (get-here k h) e
+    where
+      by : {o : Option Json} {c : Option Text} → Finds 15 o c → none ≡ c → none ≡ ifText o
+      by (finds st) e = cc
+      by finds-none e = unfold ifText in refl
+
+-- MAIN FIELDS
+pub main-empty : (m : Text) → length m ≡ 0 → mainPath m ≡ text "./" ++ m
+unfolding mainPath equal
+main-empty [] h = refl
+main-empty (b ∷ m) h = absurd (omega arith)
+
+pub main-slash : (m : Text) → getD m 0 0 ≡ 47 → mainPath m ≡ text "./" ++ m
+unfolding mainPath equal startsWith
+main-slash [] h = refl
+main-slash (b ∷ m) h = rw (eq-eqb 47 b (sym h))
+
+pub main-plain : (m : Text) → (length m ≡ 0 → ⊥) → (getD m 0 0 ≡ 47 → ⊥) → mainPath m ≡ m
+unfolding mainPath equal startsWith
+main-plain [] n h = absurd (n refl)
+main-plain (b ∷ m) n h = rw (ne-eqb 47 b (λ e. h (sym e)))
+
+-- a path that was built, and what follows, or 42
+module _ {A : Type 0} {L : Listing Sees} (f : Text → Look A) (b : Built) (bytes : Text) (n : ℕ) (e : pathAt bytes n ≡ b) where
+  pub made-long : {s : Tape} → 2048 < n → Done L (made b >>= f) s s (stop (numbers 42 [] [] []))
+  unfolding made pathAt refusalNumber
+  made-long h = rw (← e, lt-leb _ _ h) (done-stop _ (done-refuse pathTooLong _))
+
+  pub made-fits : {s s′ : Tape} {r : Step Ending A} → n ≤ 2048 → Done L (f (take n bytes)) s s′ r → Done L (made b >>= f) s s′ r
+  unfolding made pathAt
+  made-fits h g = rw (← e, le-leb _ _ h) (done-bind _ done-ret g)
+
+module _ (G : Settings) {L : Listing Sees} (p q f main bytes : Text) (n : ℕ) (e : pathAt bytes n ≡ normalizeWith p (mainPath main)) where
+  pub main-long : {s : Tape} → 2048 < n → Done L (loadMain G (place p q f) main) s s (stop (numbers 42 [] [] []))
+  unfolding loadMain under
+  main-long h = made-long _ _ _ _ e h
+
+  pub main-fits : {s s′ : Tape} {r : Step Ending (Unit {0})} → n ≤ 2048 → Done L (LOAD-AS-FILE G (place (take n bytes) q f) >>= λ _. LOAD-INDEX G (place (take n bytes) q f)) s s′ r → Done L (loadMain G (place p q f) main) s s′ r
+  unfolding loadMain under at _>>_
+  main-fits h d = made-fits _ _ _ _ e h d
+
+-- one main field: a text that was told, or none
+pub text-there : (m w : Text) (t : TextAt) → OneOf (0 ∷ 1 ∷ []) (tagOf (declared textAts.enum) t) → textOf m w t ≡ some (orEmpty (textOf m w t))
+text-there m w (InManifest i n) h = refl
+text-there m w (Work n) h = refl
+text-there m w Nothing h = absurd (⊎-elim (λ e. omega arith) (λ e. omega arith) h)
+
+module _ {L : Listing Sees} (f : Text → Look (Unit {0})) where
+  pub perhaps-none : {s : Tape} (o : Option Text) → none ≡ o → Done L (perhaps o f) s s (go tt)
+  unfolding perhaps
+  perhaps-none o e = rw (← e) done-ret
+
+  pub perhaps-some : {s s′ : Tape} {r : Step Ending (Unit {0})} (o : Option Text) (t : Text) → some t ≡ o → Done L (f t) s s′ r → Done L (perhaps o f) s s′ r
+  unfolding perhaps
+  perhaps-some o t e d = rw (← e) d
+
+-- LOAD_AS_DIRECTORY: the manifest ended the lookup, there is none, or its main fields follow
+module _ {L : Listing Sees} (G : Settings) (l : Text) {t : Look (Option Manifest)} {s s₁ : Tape} where
+  pub own-ended : (w : Way) (p : Package) (f : Option Manifest → Look (Unit {0})) → tagOf (declared ways.enum) w ≡ 1 → Done L t s s₁ (ownOf G l w p) → Done L (t >>= f) s s₁ (stepOf w)
+  own-ended Next p f h d = absurd (omega arith)
+  own-ended (Stopped x) p f h d = done-stop f d
+
+module _ {L : Listing Sees} (G : Settings) (w : Place) {s s₁ s₂ : Tape} {r : Step Ending (Unit {0})} where
+  pub directory-bare : Done L (own G (w .path)) s s₁ (go none) → Done L (LOAD-INDEX G w) s₁ s₂ r → Done L (LOAD-AS-DIRECTORY G w) s s₂ r
+  unfolding LOAD-AS-DIRECTORY perhaps _>>_
+  directory-bare d g = done-bind _ d (done-bind _ done-ret g)
+
+  pub directory-manifest : (j : Json) → Done L (own G (w .path)) s s₁ (go (some (manifestView G j))) → Done L (forEach (G .mainFields) (mainField G w j) >>= λ _. LOAD-INDEX G w) s₁ s₂ r → Done L (LOAD-AS-DIRECTORY G w) s s₂ r
+  unfolding LOAD-AS-DIRECTORY perhaps manifestView mainField _>>_
+  directory-manifest j d g = done-bind _ d g
+
+-- what is done only where a path is a directory
+module _ {L : Listing Sees} (p : Text) (t : Look (Unit {0})) (k : ℕ) {s s₁ : Tape} (d : Done L (isDir p) s s₁ (go (eqb k 1))) where
+  pub no-directory : (k ≡ 1 → ⊥) → Done L (isDir p >>= λ b. when b t) s s₁ (go tt)
+  unfolding when
+  no-directory h = done-bind _ (rw (ne-eqb _ _ h) at d) done-ret
+
+  pub in-directory : {s₂ : Tape} {r : Step Ending (Unit {0})} → k ≡ 1 → Done L t s₁ s₂ r → Done L (isDir p >>= λ b. when b t) s s₂ r
+  unfolding when
+  in-directory h g = done-bind _ (rw (eq-eqb _ _ h) at d) g

@@ -1,3 +1,8 @@
+use mathlib.Core.Path.{_∙_}
+use Rattle.definition.specs.Settings.{settingsOf}
+use Rattle.definition.specs.Walk.{LOAD-AS-DIRECTORY}
+use Rattle.resolver.proofs.Manifests.{own-ended, directory-bare, directory-manifest}
+use Rattle.resolver.proofs.Ways.{way-passed, way-onward}
 use borrow.Author.Needs.{needs}
 use Rattle.resolver.proofs.load_as_directory.Statement.{statement}
 use Rattle.resolver.proofs.load_as_directory.Tie as tie
@@ -8,150 +13,54 @@ use Rattle.resolver.proofs.load_index.Reads as load-index-reads
 use Rattle.resolver.proofs.load_main_fields.Reads as load-main-fields-reads
 use Rattle.resolver.proofs.own.Reads as own-reads
 
--- src/lib.rt:783:9
-own-requires : tie.Need-own-requires
-own-requires c κs = search needs
-
-enum-told : tie.Need-enum-told
-enum-told c = search needs
-
--- src/lib.rt:787:9
-enum-told-2 : tie.Need-enum-told-2
-enum-told-2 c = search needs
-
--- src/lib.rt:787:9
-same-length : tie.Need-same-length
-same-length c = search needs
-
--- src/lib.rt:787:9
-same-length-2 : tie.Need-same-length-2
-same-length-2 c = search needs
-
--- src/lib.rt:787:9
-same-length-3 : tie.Need-same-length-3
-same-length-3 c = search needs
-
--- src/lib.rt:787:9
-returns : tie.Need-returns
-returns c = ?
-
--- src/lib.rt:792:9
-enum-known-package : tie.Need-enum-known-package
-enum-known-package c = search needs
-
--- src/lib.rt:797:56
-enum-told-3 : tie.Need-enum-told-3
-enum-told-3 c = search needs
-
--- src/lib.rt:797:9
-load-index-requires : tie.Need-load-index-requires
-load-index-requires c κs = search needs
-
--- src/lib.rt:797:9
-same-length-4 : tie.Need-same-length-4
-same-length-4 c = search needs
-
--- src/lib.rt:797:9
-same-length-5 : tie.Need-same-length-5
-same-length-5 c = search needs
-
--- src/lib.rt:797:9
-same-length-6 : tie.Need-same-length-6
-same-length-6 c = search needs
-
--- src/lib.rt:797:9
-returns-2 : tie.Need-returns-2
-returns-2 c = ?
-
--- src/lib.rt:799:9
-contents-requires : tie.Need-contents-requires
-contents-requires c κs = search needs
-
--- src/lib.rt:800:9
-load-main-fields-requires : tie.Need-load-main-fields-requires
-load-main-fields-requires c κs = ?
-
-enum-told-4 : tie.Need-enum-told-4
-enum-told-4 c = search needs
-
--- src/lib.rt:816:9
-enum-told-5 : tie.Need-enum-told-5
-enum-told-5 c = search needs
-
--- src/lib.rt:816:9
-same-length-7 : tie.Need-same-length-7
-same-length-7 c = ?
-
--- src/lib.rt:816:9
-same-length-8 : tie.Need-same-length-8
-same-length-8 c = ?
-
--- src/lib.rt:816:9
-same-length-9 : tie.Need-same-length-9
-same-length-9 c = search needs
-
--- src/lib.rt:816:9
-same-length-10 : tie.Need-same-length-10
-same-length-10 c = search needs
-
--- src/lib.rt:816:9
-returns-3 : tie.Need-returns-3
-returns-3 c = ?
-
--- src/lib.rt:818:5
-load-index-requires-2 : tie.Need-load-index-requires-2
-load-index-requires-2 c κs = search needs
-
--- src/lib.rt:768:1
-same-length-11 : tie.Need-same-length-11
-same-length-11 c = ?
-
--- src/lib.rt:768:1
-same-length-12 : tie.Need-same-length-12
-same-length-12 c = ?
-
--- src/lib.rt:768:1
-same-length-13 : tie.Need-same-length-13
-same-length-13 c = ?
-
--- src/lib.rt:768:1
-same-length-14 : tie.Need-same-length-14
-same-length-14 c = search needs
-
--- src/lib.rt:768:1
-returns-4 : tie.Need-returns-4
-returns-4 c = ?
-
 pub load-as-directory-spec : {M : Type 1} → statement M
+unfolding settingsOf
 load-as-directory-spec =
     tie.close
     (tie.spec
-    own-requires
-    enum-told
-    enum-told-2
-    same-length
-    same-length-2
-    same-length-3
-    returns
-    enum-known-package
-    enum-told-3
-    load-index-requires
-    same-length-4
-    same-length-5
-    same-length-6
-    returns-2
-    contents-requires
-    load-main-fields-requires
-    enum-told-4
-    enum-told-5
-    same-length-7
-    same-length-8
-    same-length-9
-    same-length-10
-    returns-3
-    load-index-requires-2
-    same-length-11
-    same-length-12
-    same-length-13
-    same-length-14
-    returns-4)
+    (λ c κs. search needs)
+    (λ c. search needs)
+    (λ c. search needs)
+    (λ c. search needs)
+    (λ c. search needs)
+    (λ c. search needs)
+    (λ c.
+    unfold LOAD-AS-DIRECTORY in
+    let o = c .before .before .before .before .before .before .before .before .before .own in
+    own-ended (settingsOf (c .before .before .before .before .before .before .before .before .before .before .before .before .before .before .before .before .before .before .before .before .before .before .args .s .now)) (c .before .before .before .before .before .before .before .before .before .before .before .before .before .before .before .before .before .before .before .before .before .before .args .l .now) (o .result .way) (o .result .package) _ (c .before .match .keys2) (o .ensures .0 (settingsOf (c .before .before .before .before .before .before .before .before .before .before .before .before .before .before .before .before .before .before .before .before .before .before .args .s .now))))
+    (λ c. search needs)
+    (λ c. search needs)
+    (λ c κs. search needs)
+    (λ c. search needs)
+    (λ c. search needs)
+    (λ c. search needs)
+    (λ c.
+    let o = c .before .before .before .before .before .before .before .before .before .before .before .before .before .before .before .before .before .before .before .before .before .own in
+    directory-bare (settingsOf (c .before .before .before .before .before .before .before .before .before .before .before .before .before .before .before .before .before .before .before .before .before .before .before .before .before .before .before .before .before .before .before .before .before .before .args .s .now)) _ (rw (c .before .before .before .before .before .before .before .before .before .before .before .before .enum-told .given .1, c .before .before .before .before .before .before .before .before .before .before .enum-told3 .given .1) at (o .ensures .0 (settingsOf (c .before .before .before .before .before .before .before .before .before .before .before .before .before .before .before .before .before .before .before .before .before .before .before .before .before .before .before .before .before .before .before .before .before .before .args .s .now)))) (c .before .before .before .before .before .before .load-index .ensures))
+    (λ c κs. search needs)
+    (λ c κs. c .before .before .before .before .before .before .before .before .before .before .before .before .before .before .before .before .before .before .before .before .before .before .before .before .before .before .before .before .before .before .pre)
+    (λ c. search needs)
+    (λ c. search needs)
+    (λ c. c .before .before .before .before .before .before .before .before .before .before .load-main-fields .kept .1 .1 .1 .1 .1 .1 .1 .0 ∙ c .before .before .before .before .before .before .before .before .before .before .before .before .before .before .before .before .before .before .before .before .before .before .before .before .before .before .before .before .own .kept .1 .1 .0)
+    (λ c. c .before .before .before .before .before .before .before .before .before .before .load-main-fields .kept .1 .1 .1 .1 .1 .1 .1 .1 .0 ∙ c .before .before .before .before .before .before .before .before .before .before .before .before .before .before .before .before .before .before .before .before .before .before .before .before .before .before .before .before .own .kept .1 .1 .1 .0)
+    (λ c. search needs)
+    (λ c. search needs)
+    (λ c.
+    let o = c .before .before .before .before .before .before .before .before .before .before .before .before .before .before .before .before .before .before .before .before .before .before .before .before .before .before .before .before .own in
+    let p = c .before .before .before .before .before .before .before .before .before .before .before .before .before .before .before .before .before .package .given in
+    let g = settingsOf (c .before .before .before .before .before .before .before .before .before .before .before .before .before .before .before .before .before .before .before .before .before .before .before .before .before .before .before .before .before .before .before .before .before .before .before .before .before .before .before .before .before .args .s .now) in
+    let m = c .before .before .before .before .before .before .before .before .before .before .before .before .before .before .before .contents .ensures in
+    let f = c .before .before .before .before .before .before .before .before .before .before .load-main-fields in
+    directory-manifest g _ _ (rw (c .before .before .before .before .before .before .before .before .before .before .before .before .before .before .before .before .before .before .before .enum-told .given .1, p .1) at (o .ensures .0 g)) (way-passed (f .result .way) _ (f .ensures _ (rw m (rw (p .1) at (o .ensures .1 .0)))) (c .before .match3 .keys2)))
+    (λ c κs. search needs)
+    (λ c. c .before .before .before .before .before .before .load-index2 .kept .1 .1 .1 .1 .1 .0 ∙ c .before .before .before .before .before .before .before .before .before .before .before .before .before .before .before .before .before .before .before .before .load-main-fields .kept .1 .1 .1 .1 .1 .1 .1 .0 ∙ c .before .before .before .before .before .before .before .before .before .before .before .before .before .before .before .before .before .before .before .before .before .before .before .before .before .before .before .before .before .before .before .before .before .before .before .before .before .before .own .kept .1 .1 .0)
+    (λ c. c .before .before .before .before .before .before .load-index2 .kept .1 .1 .1 .1 .1 .1 .0 ∙ c .before .before .before .before .before .before .before .before .before .before .before .before .before .before .before .before .before .before .before .before .load-main-fields .kept .1 .1 .1 .1 .1 .1 .1 .1 .0 ∙ c .before .before .before .before .before .before .before .before .before .before .before .before .before .before .before .before .before .before .before .before .before .before .before .before .before .before .before .before .before .before .before .before .before .before .before .before .before .before .own .kept .1 .1 .1 .0)
+    (λ c. c .before .before .before .before .before .before .load-index2 .kept .1 .1 .1 .1 .1 .1 .1 .0 ∙ c .before .before .before .before .before .before .before .before .before .before .before .before .before .before .before .before .before .before .before .before .load-main-fields .kept .1 .1 .1 .1 .1 .1 .1 .1 .1 .0 ∙ c .before .before .before .before .before .before .before .before .before .before .before .before .before .before .before .before .before .before .before .before .before .before .before .before .before .before .before .before .before .before .before .before .before .before .before .before .before .before .own .kept .1 .1 .1 .1 .0)
+    (λ c. search needs)
+    (λ c.
+    let o = c .before .before .before .before .before .before .before .before .before .before .before .before .before .before .before .before .before .before .before .before .before .before .before .before .before .before .before .before .before .before .before .before .before .before .before .before .before .before .own in
+    let p = c .before .before .before .before .before .before .before .before .before .before .before .before .before .before .before .before .before .before .before .before .before .before .before .before .before .before .before .package .given in
+    let g = settingsOf (c .before .before .before .before .before .before .before .before .before .before .before .before .before .before .before .before .before .before .before .before .before .before .before .before .before .before .before .before .before .before .before .before .before .before .before .before .before .before .before .before .before .before .before .before .before .before .before .before .before .before .before .args .s .now) in
+    let m = c .before .before .before .before .before .before .before .before .before .before .before .before .before .before .before .before .before .before .before .before .before .before .before .before .before .contents .ensures in
+    let f = c .before .before .before .before .before .before .before .before .before .before .before .before .before .before .before .before .before .before .before .before .load-main-fields in
+    directory-manifest g _ _ (rw (c .before .before .before .before .before .before .before .before .before .before .before .before .before .before .before .before .before .before .before .before .before .before .before .before .before .before .before .before .before .enum-told .given .1, p .1) at (o .ensures .0 g)) (way-onward (f .result .way) _ (f .ensures _ (rw m (rw (p .1) at (o .ensures .1 .0)))) (c .before .before .before .before .before .before .before .before .before .before .enum-told4 .given .1) (c .before .before .before .before .before .before .load-index2 .ensures))))

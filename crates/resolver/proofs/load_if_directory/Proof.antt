@@ -1,3 +1,7 @@
+use Rattle.definition.specs.Settings.{settingsOf}
+use Rattle.resolver.specs.Routines.{ifDirectory}
+use Rattle.resolver.proofs.Steps.{done-isDir}
+use Rattle.resolver.proofs.Manifests.{no-directory, in-directory}
 use borrow.Author.Needs.{needs}
 use Rattle.resolver.proofs.load_if_directory.Statement.{statement}
 use Rattle.resolver.proofs.load_if_directory.Tie as tie
@@ -6,57 +10,22 @@ use Rattle.resolver.proofs.load_if_directory.Lts as lts
 use Rattle.resolver.proofs.consult.Reads as consult-reads
 use Rattle.resolver.proofs.load_as_directory.Reads as load-as-directory-reads
 
--- src/lib.rt:837:9
-consult-requires : tie.Need-consult-requires
-consult-requires c κs = search needs
-
--- src/lib.rt:840:9
-same-length : tie.Need-same-length
-same-length c = search needs
-
--- src/lib.rt:840:9
-same-length-2 : tie.Need-same-length-2
-same-length-2 c = search needs
-
--- src/lib.rt:840:9
-returns : tie.Need-returns
-returns c = ?
-
--- src/lib.rt:845:5
-load-as-directory-requires : tie.Need-load-as-directory-requires
-load-as-directory-requires c κs = search needs
-
--- src/lib.rt:822:1
-same-length-3 : tie.Need-same-length-3
-same-length-3 c = search needs
-
--- src/lib.rt:822:1
-same-length-4 : tie.Need-same-length-4
-same-length-4 c = search needs
-
--- src/lib.rt:822:1
-same-length-5 : tie.Need-same-length-5
-same-length-5 c = search needs
-
--- src/lib.rt:822:1
-same-length-6 : tie.Need-same-length-6
-same-length-6 c = search needs
-
--- src/lib.rt:822:1
-returns-2 : tie.Need-returns-2
-returns-2 c = ?
-
 pub load-if-directory-spec : {M : Type 1} → statement M
+unfolding ifDirectory
 load-if-directory-spec =
     tie.close
     (tie.spec
-    consult-requires
-    same-length
-    same-length-2
-    returns
-    load-as-directory-requires
-    same-length-3
-    same-length-4
-    same-length-5
-    same-length-6
-    returns-2)
+    (λ c κs. search needs)
+    (λ c. search needs)
+    (λ c. search needs)
+    (λ c.
+    let a = c .before .before .before .before .before .before .before .consult .ensures in
+    no-directory _ _ _ (done-isDir (settingsOf (c .before .before .before .before .before .before .before .before .before .before .before .before .before .before .before .before .before .before .before .args .s .now)) _ _ _ _ _ (a .0) (a .1 _)) (c .if1 .taken))
+    (λ c κs. search needs)
+    (λ c. search needs)
+    (λ c. search needs)
+    (λ c. search needs)
+    (λ c. search needs)
+    (λ c.
+    let a = c .before .before .before .before .before .before .before .before .before .before .before .before .before .before .before .before .before .before .before .before .consult .ensures in
+    in-directory _ _ _ (done-isDir (settingsOf (c .before .before .before .before .before .before .before .before .before .before .before .before .before .before .before .before .before .before .before .before .before .before .before .before .before .before .before .before .before .before .before .before .args .s .now)) _ _ _ _ _ (a .0) (a .1 _)) (c .before .before .before .before .before .before .before .before .before .before .before .before .before .if1 .left) (c .before .before .before .before .before .before .before .before .load-as-directory .ensures)))

@@ -1,3 +1,19 @@
+-- The loop's invariant: whatever finishes the main fields from i on finishes all of them from where the loop began.
+use mathlib.Core.Path.{_≡_, refl, _∙_}
+use mathlib.Core.List.{[]}
+use Prim.Native.Nat.{_-_, _<_}
+use native.Mathlib.Omega.{arith}
+use lib.ListN.{length, drop}
+use Rattle.definition.specs.Json.{Json}
+use Rattle.definition.specs.JsonAtLaws.{Stands}
+use Rattle.definition.specs.Settings.{textsOf, settingsOf}
+use Rattle.definition.specs.Called.{seenBy}
+use Rattle.resolver.specs.Loop.{Left, left-start, left-again, left-stop, left-end}
+use Rattle.resolver.specs.Meaning.{tapeOf, place}
+use Rattle.resolver.specs.Routines.{mainField}
+use Rattle.resolver.proofs.Files.{left-texts, none-left}
+use Rattle.resolver.proofs.Ways.{ended, onward}
+use borrow.Author.Needs.{needs}
 use Rattle.resolver.proofs.load_main_fields.Statement.{statement}
 use Rattle.resolver.proofs.load_main_fields.Tie as tie
 use Rattle.resolver.proofs.load_main_fields.Reads as reads
@@ -7,104 +23,49 @@ use Rattle.settings.proofs.count.Reads as count-reads
 
 abbrev Inv-loop : tie.InvT-loop
 Inv-loop l s manifest root path query fragment result₀ nums₀ text₀ work₀ mark₀ n i₀ result nums text work mark i =
-    ?
+    (length result ≡ length result₀) × (length nums ≡ length nums₀) × (length text ≡ length text₀) × (length work ≡ length work₀)
+    × ((j : Json) → Stands 16 (drop root manifest) j → Left (seenBy (settingsOf s) l) (mainField (settingsOf s) (place path query fragment) j) (textsOf s 2) (tapeOf result₀ nums₀ text₀ mark₀) (drop i (textsOf s 2)) (tapeOf result nums text mark))
 
 abbrev μ-loop : tie.MeasureT-loop
-μ-loop l s manifest root path query fragment result₀ nums₀ text₀ work₀ mark₀ n i₀ result nums text work mark i =
-    ?
-
--- src/lib.rt:734:9
-count-requires : tie.Need-count-requires Inv-loop μ-loop
-count-requires c κs = ?
-
--- src/lib.rt:736:5
-loop-holds : tie.Need-loop-holds Inv-loop μ-loop
-loop-holds c = ?
-
--- src/lib.rt:737:13
-load-main-field-requires : tie.Need-load-main-field-requires Inv-loop μ-loop
-load-main-field-requires c κs = ?
-
-enum-told : tie.Need-enum-told Inv-loop μ-loop
-enum-told c = ?
-
--- src/lib.rt:754:13
-enum-told-2 : tie.Need-enum-told-2 Inv-loop μ-loop
-enum-told-2 c = ?
-
--- src/lib.rt:754:13
-same-length : tie.Need-same-length Inv-loop μ-loop
-same-length c = ?
-
--- src/lib.rt:754:13
-same-length-2 : tie.Need-same-length-2 Inv-loop μ-loop
-same-length-2 c = ?
-
--- src/lib.rt:754:13
-same-length-3 : tie.Need-same-length-3 Inv-loop μ-loop
-same-length-3 c = ?
-
--- src/lib.rt:754:13
-same-length-4 : tie.Need-same-length-4 Inv-loop μ-loop
-same-length-4 c = ?
-
--- src/lib.rt:754:13
-returns : tie.Need-returns Inv-loop μ-loop
-returns c = ?
-
--- src/lib.rt:757:9
-add-i : tie.Need-add-i Inv-loop μ-loop
-add-i c = ?
-
--- src/lib.rt:736:5
-loop-less : tie.Need-loop-less Inv-loop μ-loop
-loop-less c = ?
-
--- src/lib.rt:736:5
-loop-again : tie.Need-loop-again Inv-loop μ-loop
-loop-again c = ?
-
--- src/lib.rt:716:1
-same-length-5 : tie.Need-same-length-5 Inv-loop μ-loop
-same-length-5 c = ?
-
--- src/lib.rt:716:1
-same-length-6 : tie.Need-same-length-6 Inv-loop μ-loop
-same-length-6 c = ?
-
--- src/lib.rt:716:1
-same-length-7 : tie.Need-same-length-7 Inv-loop μ-loop
-same-length-7 c = ?
-
--- src/lib.rt:716:1
-same-length-8 : tie.Need-same-length-8 Inv-loop μ-loop
-same-length-8 c = ?
-
--- src/lib.rt:716:1
-returns-2 : tie.Need-returns-2 Inv-loop μ-loop
-returns-2 c = ?
+μ-loop l s manifest root path query fragment result₀ nums₀ text₀ work₀ mark₀ n i₀ result nums text work mark i = n - i
 
 pub load-main-fields-spec : {M : Type 1} → statement M
+unfolding mainField
 load-main-fields-spec =
     tie.close
     (tie.spec
     Inv-loop
     μ-loop
-    count-requires
-    loop-holds
-    load-main-field-requires
-    enum-told
-    enum-told-2
-    same-length
-    same-length-2
-    same-length-3
-    same-length-4
-    returns
-    add-i
-    loop-less
-    loop-again
-    same-length-5
-    same-length-6
-    same-length-7
-    same-length-8
-    returns-2)
+    (λ c κs. search needs)
+    (λ c. (refl, refl, refl, refl, λ j h. left-start _ _ _ _ _ refl))
+    (λ c κs. search needs)
+    (λ c. search needs)
+    (λ c. search needs)
+    (λ c. search needs)
+    (λ c. search needs)
+    (λ c. search needs)
+    (λ c. search needs)
+    (λ c.
+    let l = c .before .before .before .before .before .before .before .before .before .before .before .before .before .before .before .before .loop in
+    let more : l .i < length (textsOf (c .before .before .before .before .before .before .before .before .before .before .before .before .before .before .before .before .before .before .before .before .before .before .before .before .before .before .before .before .args .s .now) 2) = omega (arith, c .before .before .before .before .before .before .before .before .before .before .before .before .before .before .before .before .before .count .ensures, c .before .before .before .before .before .before .before .before .before .before .before .before .before .before .before .loop-test .taken) in
+    let x = ended (c .before .before .before .before .before .before .before .before .before .before .load-main-field .result .way) (c .before .match .keys2) in
+    λ j h. left-stop _ _ _ _ _ _ _ _ _ _ (x .0) (left-texts [] _ _ more) (l .inv .4 j h) (x .1) (c .before .before .before .before .before .before .before .before .before .before .load-main-field .ensures j h))
+    (λ c. search needs)
+    (λ c. search needs)
+    (λ c.
+    let l = c .before .before .before .before .before .before .before .before .before .before .before .before .before .before .before .before .before .loop in
+    let more : l .i < length (textsOf (c .before .before .before .before .before .before .before .before .before .before .before .before .before .before .before .before .before .before .before .before .before .before .before .before .before .before .before .before .before .args .s .now) 2) = omega (arith, c .before .before .before .before .before .before .before .before .before .before .before .before .before .before .before .before .before .before .count .ensures, c .before .before .before .before .before .before .before .before .before .before .before .before .before .before .before .before .loop-test .taken) in
+    let r = c .before .before .before .before .before .before .before .before .before .before .before .load-main-field in (
+      r .kept .1 .1 .1 .1 .1 .1 .1 .1 .0 ∙ l .inv .0,
+      r .kept .1 .1 .1 .1 .1 .1 .1 .1 .1 .0 ∙ l .inv .1,
+      r .kept .1 .1 .1 .1 .1 .1 .1 .1 .1 .1 .0 ∙ l .inv .2,
+      r .kept .1 .1 .1 .1 .1 .1 .1 .1 .1 .1 .1 .1 .0 ∙ l .inv .3,
+      λ j h. left-again _ _ _ _ _ _ _ _ _ _ (left-texts [] _ _ more) (l .inv .4 j h) (onward _ (c .before .enum-told .given .1)) (r .ensures j h),
+    ))
+    (λ c. search needs)
+    (λ c. search needs)
+    (λ c. search needs)
+    (λ c. search needs)
+    (λ c.
+    let l = c .before .loop in
+    λ j h. left-end _ _ _ _ _ _ (none-left (textsOf (c .before .before .before .before .before .before .before .before .before .before .before .before .before .args .s .now) 2) (l .i) (omega (arith, c .before .before .count .ensures, c .loop-test .left))) (l .inv .4 j h)))

@@ -1,3 +1,5 @@
+use mathlib.Core.Path.{_∙_, ap}
+use Rattle.resolver.proofs.Manifests.{field-text, field-none}
 use borrow.Author.Needs.{needs}
 use Rattle.resolver.proofs.text_field.Statement.{statement}
 use Rattle.resolver.proofs.text_field.Tie as tie
@@ -6,42 +8,19 @@ use Rattle.resolver.proofs.text_field.Lts as lts
 use Rattle.package_json.proofs.get.Reads as get-reads
 use Rattle.package_json.proofs.read_text.Reads as read-text-reads
 
--- src/lib.rt:633:9
-get-requires : tie.Need-get-requires
-get-requires c κs = search needs
-
--- src/lib.rt:635:20
-enum-known-at : tie.Need-enum-known-at
-enum-known-at c = search needs
-
--- src/lib.rt:635:26
-read-text-requires : tie.Need-read-text-requires
-read-text-requires c κs = search needs
-
--- src/lib.rt:636:28
-enum-told : tie.Need-enum-told
-enum-told c = search needs
-
--- src/lib.rt:629:1
-same-length : tie.Need-same-length
-same-length c = search needs
-
--- src/lib.rt:629:1
-returns : tie.Need-returns
-returns c = ?
-
--- src/lib.rt:629:1
-returns-2 : tie.Need-returns-2
-returns-2 c = ?
-
 pub text-field-spec : {M : Type 1} → statement M
 text-field-spec =
     tie.close
     (tie.spec
-    get-requires
-    enum-known-at
-    read-text-requires
-    enum-told
-    same-length
-    returns
-    returns-2)
+    (λ c κs. search needs)
+    (λ c. search needs)
+    (λ c κs. search needs)
+    (λ c. search needs)
+    (λ c. search needs)
+    (λ c.
+    let a = c .before .before .before .before .before .before .before .before .before .before .before .args in
+    let r = c .before .before .before .before .before .at .given in
+    λ j h. ap (λ x. x .text) (c .before .before .read-text .ensures) ∙ field-text (a .m .now) (a .name .now) (a .root) j h _ (r .0 .0) (c .before .before .before .before .before .before .before .before .before .before .before .pre) (rw (r .1) at (c .before .before .before .before .before .before .before .get .ensures)))
+    (λ c.
+    let a = c .before .before .before .before .before .before .args in
+    λ j h. field-none (a .m .now) (a .name .now) (a .root) j h (rw (c .enum-told .given .1) at (c .before .before .get .ensures))))
