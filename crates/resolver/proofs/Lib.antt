@@ -4,4 +4,5 @@ pub mod Climbs
 pub mod Files
 pub mod Ways
 pub mod Manifests
+pub mod Matches
 pub mod Modules

@@ -1,3 +1,14 @@
+-- The loop's invariant: the exports fields before i are not there.
+use mathlib.Core.Path.{refl, _∙_, ap}
+use mathlib.Core.List.{[]}
+use Prim.Native.Nat.{_-_, _<_}
+use native.Mathlib.Omega.{arith}
+use lib.ListN.{length, drop}
+use Rattle.definition.specs.JsonAt.{getAt}
+use Rattle.definition.specs.Settings.{textsOf}
+use Rattle.resolver.proofs.Files.{left-texts, none-left}
+use Rattle.resolver.proofs.Matches.{Passed, passed-end, passed-more, passed-here}
+use borrow.Author.Needs.{needs}
 use Rattle.resolver.proofs.exports_field.Statement.{statement}
 use Rattle.resolver.proofs.exports_field.Tie as tie
 use Rattle.resolver.proofs.exports_field.Reads as reads
@@ -7,53 +18,10 @@ use Rattle.settings.proofs.count.Reads as count-reads
 use Rattle.settings.proofs.text.Reads as text-reads
 
 abbrev Inv-loop : tie.InvT-loop
-Inv-loop m root s n i₀ i = ?
+Inv-loop m root s n i₀ i = Passed m root (textsOf s 4) (drop i (textsOf s 4))
 
 abbrev μ-loop : tie.MeasureT-loop
-μ-loop m root s n i₀ i = ?
-
--- src/lib.rt:894:9
-count-requires : tie.Need-count-requires Inv-loop μ-loop
-count-requires c κs = ?
-
--- src/lib.rt:896:5
-loop-holds : tie.Need-loop-holds Inv-loop μ-loop
-loop-holds c = ?
-
--- src/lib.rt:897:45
-text-requires : tie.Need-text-requires Inv-loop μ-loop
-text-requires c κs = ?
-
--- src/lib.rt:897:13
-get-requires : tie.Need-get-requires Inv-loop μ-loop
-get-requires c κs = ?
-
-enum-told : tie.Need-enum-told Inv-loop μ-loop
-enum-told c = ?
-
--- src/lib.rt:899:13
-enum-told-2 : tie.Need-enum-told-2 Inv-loop μ-loop
-enum-told-2 c = ?
-
--- src/lib.rt:899:13
-returns : tie.Need-returns Inv-loop μ-loop
-returns c = ?
-
--- src/lib.rt:901:9
-add-i : tie.Need-add-i Inv-loop μ-loop
-add-i c = ?
-
--- src/lib.rt:896:5
-loop-less : tie.Need-loop-less Inv-loop μ-loop
-loop-less c = ?
-
--- src/lib.rt:896:5
-loop-again : tie.Need-loop-again Inv-loop μ-loop
-loop-again c = ?
-
--- src/lib.rt:891:1
-returns-2 : tie.Need-returns-2 Inv-loop μ-loop
-returns-2 c = ?
+μ-loop m root s n i₀ i = n - i
 
 pub exports-field-spec : {M : Type 1} → statement M
 exports-field-spec =
@@ -61,14 +29,22 @@ exports-field-spec =
     (tie.spec
     Inv-loop
     μ-loop
-    count-requires
-    loop-holds
-    text-requires
-    get-requires
-    enum-told
-    enum-told-2
-    returns
-    add-i
-    loop-less
-    loop-again
-    returns-2)
+    (λ c κs. search needs)
+    (λ c. λ j h. refl)
+    (λ c κs. search needs)
+    (λ c κs. search needs)
+    (λ c. search needs)
+    (λ c. search needs)
+    (λ c.
+    let i = c .before .before .before .before .before .loop .i in
+    let more : i < length (textsOf (c .before .before .before .before .before .before .before .before .before .args .s .now) 4) = omega (arith, c .before .before .before .before .before .before .count .ensures, c .before .before .before .before .loop-test .taken) in
+    let g = c .before .before .get .ensures ∙ ap (λ k. getAt k (drop (c .before .before .before .before .before .before .before .before .before .args .root) (c .before .before .before .before .before .before .before .before .before .args .m .now))) (c .before .before .before .text .ensures) in
+    passed-here (c .before .before .before .before .before .before .before .before .before .args .m .now) (c .before .before .before .before .before .before .before .before .before .args .root) _ _ _ _ (c .before .before .get .result) (left-texts [] _ _ more) (c .before .before .before .before .before .loop .inv) g (c .before .match .keys2))
+    (λ c. search needs)
+    (λ c. search needs)
+    (λ c.
+    let i = c .before .before .before .before .before .loop .i in
+    let more : i < length (textsOf (c .before .before .before .before .before .before .before .before .before .args .s .now) 4) = omega (arith, c .before .before .before .before .before .before .count .ensures, c .before .before .before .before .loop-test .taken) in
+    let g = c .before .before .get .ensures ∙ ap (λ k. getAt k (drop (c .before .before .before .before .before .before .before .before .before .args .root) (c .before .before .before .before .before .before .before .before .before .args .m .now))) (c .before .before .before .text .ensures) in
+    passed-more (c .before .before .before .before .before .before .before .before .before .args .m .now) (c .before .before .before .before .before .before .before .before .before .args .root) _ _ _ _ (c .before .before .get .result) (left-texts [] _ _ more) (c .before .before .before .before .before .loop .inv) g (c .enum-told .given .1))
+    (λ c. passed-end (c .before .before .before .before .before .args .m .now) (c .before .before .before .before .before .args .root) _ _ (none-left (textsOf (c .before .before .before .before .before .args .s .now) 4) (c .before .loop .i) (omega (arith, c .before .before .count .ensures, c .loop-test .left))) (c .before .loop .inv)))

@@ -1,3 +1,8 @@
+use mathlib.Core.Path.{_∙_, ap}
+use Rattle.definition.specs.Path.{andPath, limited, manifestOf}
+use Rattle.package_json.specs.Cursors.{orEmpty}
+use Rattle.resolver.proofs.Manifests.{manifest-path}
+use Rattle.resolver.proofs.Matches.{key-read}
 use borrow.Author.Needs.{needs}
 use Rattle.resolver.proofs.invalid_target.Statement.{statement}
 use Rattle.resolver.proofs.invalid_target.Tie as tie
@@ -10,102 +15,36 @@ use Rattle.path.proofs.PathBuf.push_manifest.Reads as push-manifest-reads
 use Rattle.path.proofs.first.Reads as first-reads
 use Rattle.resolver.proofs.finish.Reads as finish-reads
 
--- src/lib.rt:928:13
-from-requires : tie.Need-from-requires
-from-requires c κs = search needs
-
--- src/lib.rt:928:13
-push-manifest-requires : tie.Need-push-manifest-requires
-push-manifest-requires c κs = search needs
-
--- src/lib.rt:930:9
-first-requires : tie.Need-first-requires
-first-requires c κs = search needs
-
--- src/lib.rt:932:39
-enum-told : tie.Need-enum-told
-enum-told c = search needs
-
--- src/lib.rt:932:39
-slice-aggregate-finish : tie.Need-slice-aggregate-finish
-slice-aggregate-finish c = search needs
-
--- src/lib.rt:932:21
-finish-requires : tie.Need-finish-requires
-finish-requires c κs = search needs
-
--- src/lib.rt:933:62
-enum-told-2 : tie.Need-enum-told-2
-enum-told-2 c = search needs
-
--- src/lib.rt:933:25
-finish-requires-2 : tie.Need-finish-requires-2
-finish-requires-2 c κs = search needs
-
--- src/lib.rt:934:17
-enum-known-key : tie.Need-enum-known-key
-enum-known-key c = search needs
-
--- src/lib.rt:935:17
-read-text-requires : tie.Need-read-text-requires
-read-text-requires c κs = search needs
-
--- src/lib.rt:936:17
-text-at-requires : tie.Need-text-at-requires
-text-at-requires c κs = search needs
-
--- src/lib.rt:937:13
-finish-requires-3 : tie.Need-finish-requires-3
-finish-requires-3 c κs = search needs
-
--- src/lib.rt:916:1
-same-length : tie.Need-same-length
-same-length c = search needs
-
--- src/lib.rt:916:1
-returns : tie.Need-returns
-returns c = ?
-
--- src/lib.rt:916:1
-same-length-2 : tie.Need-same-length-2
-same-length-2 c = search needs
-
--- src/lib.rt:916:1
-returns-2 : tie.Need-returns-2
-returns-2 c = ?
-
--- src/lib.rt:916:1
-same-length-3 : tie.Need-same-length-3
-same-length-3 c = search needs
-
--- src/lib.rt:916:1
-same-length-4 : tie.Need-same-length-4
-same-length-4 c = search needs
-
--- src/lib.rt:916:1
-returns-3 : tie.Need-returns-3
-returns-3 c = ?
-
 pub invalid-target-spec : {M : Type 1} → statement M
 invalid-target-spec =
     tie.close
     (tie.spec
-    from-requires
-    push-manifest-requires
-    first-requires
-    enum-told
-    slice-aggregate-finish
-    finish-requires
-    enum-told-2
-    finish-requires-2
-    enum-known-key
-    read-text-requires
-    text-at-requires
-    finish-requires-3
-    same-length
-    returns
-    same-length-2
-    returns-2
-    same-length-3
-    same-length-4
-    returns-3)
+    (λ c κs. search needs)
+    (λ c κs. search needs)
+    (λ c κs. search needs)
+    (λ c. search needs)
+    (λ c. search needs)
+    (λ c κs. search needs)
+    (λ c. search needs)
+    (λ c κs. search needs)
+    (λ c. search needs)
+    (λ c κs. search needs)
+    (λ c κs. search needs)
+    (λ c κs. search needs)
+    (λ c. search needs)
+    (λ c.
+    let b = c .before .before .before .before .before .before .before .before .before .before .before .push-manifest .ensures ∙ ap (λ x. andPath x (λ p. limited (manifestOf p))) (c .before .before .before .before .before .before .before .before .before .before .before .before .from .ensures) in
+    let p = c .before .before .before .before .before .before .before .first .ensures ∙ manifest-path _ _ _ b (c .before .before .before .before .before .before .before .before .before .before .before .before .before .before .before .before .before .before .before .pre .1) in
+    rw (c .before .before .before .before .before .enum-told .given .1) (record { ending = rw p at (c .before .before .finish .ensures .0); texts = rw p at (c .before .before .finish .ensures .1) }))
+    (λ c. search needs)
+    (λ c.
+    let b = c .before .before .before .before .before .before .before .before .before .before .push-manifest .ensures ∙ ap (λ x. andPath x (λ p. limited (manifestOf p))) (c .before .before .before .before .before .before .before .before .before .before .before .from .ensures) in
+    let p = c .before .before .before .before .before .before .first .ensures ∙ manifest-path _ _ _ b (c .before .before .before .before .before .before .before .before .before .before .before .before .before .before .before .before .before .before .pre .1) in
+    rw (c .before .before .before .before .enum-told2 .given .1) (record { ending = rw p at (c .before .before .finish2 .ensures .0); texts = rw p at (c .before .before .finish2 .ensures .1) }))
+    (λ c. search needs)
+    (λ c. search needs)
+    (λ c.
+    let b = c .before .before .before .before .before .before .before .before .before .before .before .before .before .before .before .before .before .push-manifest .ensures ∙ ap (λ x. andPath x (λ p. limited (manifestOf p))) (c .before .before .before .before .before .before .before .before .before .before .before .before .before .before .before .before .before .before .from .ensures) in
+    let p = c .before .before .before .before .before .before .before .before .before .before .before .before .before .first .ensures ∙ manifest-path _ _ _ b (c .before .before .before .before .before .before .before .before .before .before .before .before .before .before .before .before .before .before .before .before .before .before .before .before .before .pre .1) in
+    let k = c .before .before .before .before .text-at .ensures ∙ ap (λ x. orEmpty (x .text)) (c .before .before .before .before .before .before .before .before .read-text .ensures) ∙ key-read _ _ (c .before .before .before .before .before .before .before .before .before .before .before .before .before .before .before .before .before .before .before .before .before .before .before .before .before .pre .0) in
+    rw (c .before .before .before .before .before .before .before .before .before .before .before .key .given .1) (record { ending = rw (p, k) at (c .before .before .finish3 .ensures .0); texts = rw (p, k) at (c .before .before .finish3 .ensures .1) })))

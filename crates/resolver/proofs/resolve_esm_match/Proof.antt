@@ -1,3 +1,8 @@
+use mathlib.Core.Path.{_∙_}
+use Rattle.definition.specs.Exports.{NotFound, failureNumber, failureTexts}
+use Rattle.definition.specs.Walk.{notFound}
+use Rattle.resolver.proofs.Steps.{done-finish}
+use Rattle.resolver.proofs.Matches.{ends-failed, match-file, match-directory, match-none}
 use borrow.Author.Needs.{needs}
 use Rattle.resolver.proofs.resolve_esm_match.Statement.{statement}
 use Rattle.resolver.proofs.resolve_esm_match.Tie as tie
@@ -7,120 +12,31 @@ use Rattle.resolver.proofs.finish.Reads as finish-reads
 use Rattle.resolver.proofs.load_as_file.Reads as load-as-file-reads
 use Rattle.resolver.proofs.load_if_directory.Reads as load-if-directory-reads
 
--- src/lib.rt:878:9
-load-as-file-requires : tie.Need-load-as-file-requires
-load-as-file-requires c κs = search needs
-
-enum-told : tie.Need-enum-told
-enum-told c = search needs
-
--- src/lib.rt:881:9
-enum-told-2 : tie.Need-enum-told-2
-enum-told-2 c = search needs
-
--- src/lib.rt:881:9
-same-length : tie.Need-same-length
-same-length c = search needs
-
--- src/lib.rt:881:9
-same-length-2 : tie.Need-same-length-2
-same-length-2 c = search needs
-
--- src/lib.rt:881:9
-same-length-3 : tie.Need-same-length-3
-same-length-3 c = search needs
-
--- src/lib.rt:881:9
-returns : tie.Need-returns
-returns c = ?
-
--- src/lib.rt:883:9
-load-if-directory-requires : tie.Need-load-if-directory-requires
-load-if-directory-requires c κs = search needs
-
-enum-told-3 : tie.Need-enum-told-3
-enum-told-3 c = search needs
-
--- src/lib.rt:897:9
-enum-told-4 : tie.Need-enum-told-4
-enum-told-4 c = search needs
-
--- src/lib.rt:897:9
-same-length-4 : tie.Need-same-length-4
-same-length-4 c = search needs
-
--- src/lib.rt:897:9
-same-length-5 : tie.Need-same-length-5
-same-length-5 c = search needs
-
--- src/lib.rt:897:9
-same-length-6 : tie.Need-same-length-6
-same-length-6 c = search needs
-
--- src/lib.rt:897:9
-same-length-7 : tie.Need-same-length-7
-same-length-7 c = search needs
-
--- src/lib.rt:897:9
-returns-2 : tie.Need-returns-2
-returns-2 c = ?
-
--- src/lib.rt:901:43
-slice-aggregate-finish : tie.Need-slice-aggregate-finish
-slice-aggregate-finish c = search needs
-
--- src/lib.rt:901:48
-slice-aggregate-finish-2 : tie.Need-slice-aggregate-finish-2
-slice-aggregate-finish-2 c = search needs
-
--- src/lib.rt:901:27
-finish-requires : tie.Need-finish-requires
-finish-requires c κs = search needs
-
--- src/lib.rt:862:1
-same-length-8 : tie.Need-same-length-8
-same-length-8 c = ?
-
--- src/lib.rt:862:1
-same-length-9 : tie.Need-same-length-9
-same-length-9 c = ?
-
--- src/lib.rt:862:1
-same-length-10 : tie.Need-same-length-10
-same-length-10 c = search needs
-
--- src/lib.rt:862:1
-same-length-11 : tie.Need-same-length-11
-same-length-11 c = search needs
-
--- src/lib.rt:862:1
-returns-3 : tie.Need-returns-3
-returns-3 c = ?
-
 pub resolve-esm-match-spec : {M : Type 1} → statement M
+unfolding notFound failureNumber failureTexts
 resolve-esm-match-spec =
     tie.close
     (tie.spec
-    load-as-file-requires
-    enum-told
-    enum-told-2
-    same-length
-    same-length-2
-    same-length-3
-    returns
-    load-if-directory-requires
-    enum-told-3
-    enum-told-4
-    same-length-4
-    same-length-5
-    same-length-6
-    same-length-7
-    returns-2
-    slice-aggregate-finish
-    slice-aggregate-finish-2
-    finish-requires
-    same-length-8
-    same-length-9
-    same-length-10
-    same-length-11
-    returns-3)
+    (λ c κs. search needs)
+    (λ c. search needs)
+    (λ c. search needs)
+    (λ c. search needs)
+    (λ c. search needs)
+    (λ c. search needs)
+    (λ c. match-file _ _ _ (c .before .before .before .before .before .before .before .before .load-as-file .result .way) (c .before .before .before .before .before .before .before .before .load-as-file .ensures) (c .before .match .keys2))
+    (λ c κs. search needs)
+    (λ c. search needs)
+    (λ c. search needs)
+    (λ c. search needs)
+    (λ c. search needs)
+    (λ c. search needs)
+    (λ c. search needs)
+    (λ c. match-directory _ _ _ _ (c .before .before .before .before .before .before .before .before .before .before .before .before .before .before .before .before .before .before .before .before .before .before .before .load-as-file .ensures) (c .before .before .before .before .before .before .before .before .before .before .load-if-directory .result .way) (c .before .before .before .before .before .before .before .before .before .before .before .before .before .before .before .enum-told .given .1) (c .before .before .before .before .before .before .before .before .before .before .load-if-directory .ensures) (c .before .match2 .keys2))
+    (λ c. search needs)
+    (λ c. search needs)
+    (λ c κs. search needs)
+    (λ c. c .before .before .finish .kept .1 .1 .1 .1 .0 ∙ c .before .before .before .before .before .before .before .before .before .before .before .before .before .before .before .before .before .load-if-directory .kept .1 .1 .1 .1 .1 .0 ∙ c .before .before .before .before .before .before .before .before .before .before .before .before .before .before .before .before .before .before .before .before .before .before .before .before .before .before .before .before .before .before .load-as-file .kept .1 .1 .1 .1 .1 .0)
+    (λ c. c .before .before .before .before .before .before .before .before .before .before .before .before .before .before .before .before .before .load-if-directory .kept .1 .1 .1 .1 .1 .1 .0 ∙ c .before .before .before .before .before .before .before .before .before .before .before .before .before .before .before .before .before .before .before .before .before .before .before .before .before .before .before .before .before .before .load-as-file .kept .1 .1 .1 .1 .1 .1 .0)
+    (λ c. search needs)
+    (λ c. search needs)
+    (λ c. match-none _ _ _ _ (c .before .before .before .before .before .before .before .before .before .before .before .before .before .before .before .before .before .before .before .before .before .before .before .before .before .before .before .before .before .before .load-as-file .ensures) _ (c .before .before .before .before .before .before .before .before .before .before .before .before .before .before .before .before .before .before .before .before .before .before .enum-told .given .1) (c .before .before .before .before .before .before .before .before .before .before .before .before .before .before .before .before .before .load-if-directory .ensures) (c .before .before .before .before .before .before .before .enum-told3 .given .1) (done-finish (ends-failed (NotFound _)) _ _ _ (c .before .before .finish .ensures .0) (rw (c .before .before .finish .ensures .1)))))
