@@ -3,6 +3,8 @@
 //!   compare cases N [SEED]      N distinct cases: number, texts, the whole list, every byte of every buffer
 //!   compare pairs N [SEED]      N pairs of listings that agree where a lookup looked (demand 3)
 //!   compare garbage N [SEED]    N calls with damaged and random bytes and buffer lengths (demand 1)
+//!   compare vectors FILE        writes chosen cases with the Rust's answers
+//!   compare replay FILE         replays them through the product
 //!   compare one NUMBER [SEED]   one case, in words
 
 mod broken;
@@ -20,6 +22,7 @@ mod product;
 mod rng;
 #[cfg_attr(not(rust), path = "no_rust.rs")]
 mod rust;
+mod vectors;
 
 use cases::Case;
 use expected::{By, Expected};
@@ -30,7 +33,7 @@ use std::process::ExitCode;
 
 const SEED: u64 = 1;
 
-fn hash(case: &Case) -> u64 {
+pub fn hash(case: &Case) -> u64 {
     let mut hasher = DefaultHasher::new();
     case.hash(&mut hasher);
     hasher.finish()
@@ -200,6 +203,13 @@ fn one(number: u64, seed: u64) -> bool {
 
 fn run() -> Option<bool> {
     let args: Vec<String> = std::env::args().skip(1).collect();
+    if let [mode, file] = &args[..] {
+        match mode.as_str() {
+            "vectors" => return Some(vectors::write(file, SEED)),
+            "replay" => return Some(vectors::replay(file)),
+            _ => {}
+        }
+    }
     let number = |at: usize, default: u64| args.get(at).map_or(Some(default), |text| text.parse().ok());
     let seed = number(2, SEED)?;
     Some(match args.first()?.as_str() {
@@ -218,7 +228,7 @@ fn main() -> ExitCode {
         Some(true) => ExitCode::SUCCESS,
         Some(false) => ExitCode::FAILURE,
         None => {
-            eprintln!("compare cases N [SEED] | pairs N [SEED] | garbage N [SEED] | one NUMBER [SEED]");
+            eprintln!("compare cases N [SEED] | pairs N [SEED] | garbage N [SEED] | vectors FILE | replay FILE | one NUMBER [SEED]");
             ExitCode::FAILURE
         }
     }
