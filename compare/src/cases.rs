@@ -5,6 +5,7 @@ use crate::broken;
 use crate::lent::{EXPORTS_FIELDS, EXTENSIONS, MOST, Row, Settings, Tree, is_path, is_specifier, lay, lay_settings, name_of, parent, rows};
 use crate::manifests::{Around, damaged};
 use crate::model;
+use crate::product::Question;
 use crate::rng::Rng;
 
 /// How long the lent output buffers are, against what the answer needs.
@@ -32,6 +33,10 @@ pub struct Case {
 }
 
 impl Case {
+    pub fn question(&self) -> Question<'_> {
+        Question { listing: &self.listing, settings: &self.settings, start: &self.start, specifier: &self.specifier }
+    }
+
     /// The length of the lent work memory.
     pub fn work(&self) -> usize {
         if let Room::Work(work) = self.room { work } else { 32_768 }

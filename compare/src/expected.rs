@@ -129,14 +129,7 @@ pub fn rooms(expected: &Expected, room: Room) -> Rooms {
 
 /// What the call must leave in these buffers.
 pub fn left(expected: &Expected, rooms: Rooms) -> Left {
-    let mut left = Left {
-        number: expected.end.number,
-        lengths: [0; 3],
-        result: vec![0; rooms.result],
-        numbers: vec![0; rooms.numbers],
-        list: vec![0; rooms.list],
-        work: vec![0; rooms.work],
-    };
+    let mut left = Left { number: expected.end.number, ..Left::filled(rooms, 0) };
     if expected.end.is_refusal() {
         return left;
     }

@@ -83,7 +83,7 @@ pub fn run(count: u64, seed: u64) -> bool {
             list: length(needed.list, &mut rng),
             work,
         };
-        let got = product::call(&case, rooms);
+        let got = product::call(case.question(), rooms);
         if got != expected::left(&expected, rooms) {
             faults += 1;
             println!("FAULT garbage {number}: the product differs ({rooms:?})");

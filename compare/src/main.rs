@@ -105,7 +105,7 @@ impl Report {
     fn compare(&mut self, number: &str, case: &Case, expected: &Expected) {
         let rooms = expected::rooms(expected, case.room);
         let want = expected::left(expected, rooms);
-        let got = product::call(case, rooms);
+        let got = product::call(case.question(), rooms);
         if case.stated.is_some_and(|stated| stated != want.number) {
             self.fault(number, case, &format!("made to give {:?}, but {} is worked out", case.stated, want.number));
         }
@@ -195,7 +195,7 @@ fn one(number: u64, seed: u64) -> bool {
         Ok(expected) => {
             let rooms = expected::rooms(&expected, case.room);
             print_left("wanted", &expected::left(&expected, rooms));
-            print_left("got   ", &product::call(&case, rooms));
+            print_left("got   ", &product::call(case.question(), rooms));
         }
     }
     true

@@ -160,7 +160,7 @@ impl Seen {
         }
         let Ok(wanted) = expected::decide(case, case.work(), false) else { return };
         let rooms = expected::rooms(&wanted, case.room);
-        let (one, two) = (product::call(case, rooms), product::call(&second, rooms));
+        let (one, two) = (product::call(case.question(), rooms), product::call(second.question(), rooms));
         if one != two || one != expected::left(&wanted, rooms) {
             self.faults += 1;
             println!("FAULT: two listings that agree, and calls that do not end alike");

@@ -1,7 +1,5 @@
 //! The product: the static library's one function, called with buffers of exactly the lengths wanted.
 
-use crate::cases::Case;
-
 unsafe extern "C" {
     fn hannuvozh_lookup(
         listing: *const u8,
@@ -33,6 +31,15 @@ pub struct Rooms {
     pub work: usize,
 }
 
+/// One question, as bytes.
+#[derive(Clone, Copy)]
+pub struct Question<'a> {
+    pub listing: &'a [u8],
+    pub settings: &'a [u8],
+    pub start: &'a [u8],
+    pub specifier: &'a [u8],
+}
+
 /// What a call leaves: its number, the lengths of its texts, and all of every buffer.
 #[derive(Clone, PartialEq, Eq)]
 pub struct Left {
@@ -44,40 +51,50 @@ pub struct Left {
     pub work: Vec<u8>,
 }
 
-/// What stands in the buffers before a call.
-const DIRT: u8 = 0xA5;
+impl Left {
+    /// Buffers of these lengths, each byte being `byte`.
+    pub fn filled(rooms: Rooms, byte: u8) -> Self {
+        let number = u32::from_le_bytes([byte; 4]);
+        Self {
+            number,
+            lengths: [number; 3],
+            result: vec![byte; rooms.result],
+            numbers: vec![number; rooms.numbers],
+            list: vec![byte; rooms.list],
+            work: vec![byte; rooms.work],
+        }
+    }
 
-pub fn call(case: &Case, rooms: Rooms) -> Left {
-    let dirt = |length: usize| vec![DIRT; length];
-    let mut left = Left {
-        number: 0,
-        lengths: [u32::MAX; 3],
-        result: dirt(rooms.result),
-        numbers: vec![u32::MAX; rooms.numbers],
-        list: dirt(rooms.list),
-        work: dirt(rooms.work),
-    };
-    // SAFETY: each pointer goes with the length of its own buffer, and the buffers are apart.
-    left.number = unsafe {
-        hannuvozh_lookup(
-            case.listing.as_ptr(),
-            case.listing.len(),
-            case.settings.as_ptr(),
-            case.settings.len(),
-            case.start.as_ptr(),
-            case.start.len(),
-            case.specifier.as_ptr(),
-            case.specifier.len(),
-            left.result.as_mut_ptr(),
-            rooms.result,
-            left.numbers.as_mut_ptr(),
-            rooms.numbers,
-            left.list.as_mut_ptr(),
-            rooms.list,
-            left.work.as_mut_ptr(),
-            rooms.work,
-            left.lengths.as_mut_ptr(),
-        )
-    };
+    pub fn ask(&mut self, question: Question) {
+        let Question { listing, settings, start, specifier } = question;
+        // SAFETY: each pointer goes with the length of its own buffer, and the buffers are apart.
+        self.number = unsafe {
+            hannuvozh_lookup(
+                listing.as_ptr(),
+                listing.len(),
+                settings.as_ptr(),
+                settings.len(),
+                start.as_ptr(),
+                start.len(),
+                specifier.as_ptr(),
+                specifier.len(),
+                self.result.as_mut_ptr(),
+                self.result.len(),
+                self.numbers.as_mut_ptr(),
+                self.numbers.len(),
+                self.list.as_mut_ptr(),
+                self.list.len(),
+                self.work.as_mut_ptr(),
+                self.work.len(),
+                self.lengths.as_mut_ptr(),
+            )
+        };
+    }
+}
+
+/// The call over buffers that hold something else before.
+pub fn call(question: Question, rooms: Rooms) -> Left {
+    let mut left = Left::filled(rooms, 0xA5);
+    left.ask(question);
     left
 }

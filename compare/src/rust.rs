@@ -3,6 +3,7 @@
 
 use crate::lent::{Settings, Tree};
 use crate::model::{Consult, End};
+use rustc_hash::FxHashMap;
 use std::panic::{AssertUnwindSafe, catch_unwind};
 use std::path::{Path, PathBuf};
 use std::sync::{Arc, Mutex};
@@ -14,12 +15,17 @@ type Log = Arc<Mutex<Vec<Consult>>>;
 
 /// A tree as a file system: a path that no entry spells byte for byte is absent.
 #[derive(Clone)]
-struct Lent {
-    tree: Arc<Tree>,
+pub struct Lent {
+    tree: Arc<FxHashMap<Vec<u8>, Option<Vec<u8>>>>,
     log: Option<Log>,
 }
 
 impl Lent {
+    /// Without a log.
+    pub fn new(tree: &Tree) -> Self {
+        Self { tree: Arc::new(tree.iter().map(|(path, contents)| (path.clone(), contents.clone())).collect()), log: None }
+    }
+
     fn state(&self, path: &Path) -> u8 {
         match self.tree.get(path.as_os_str().as_bytes()) {
             None => 0,
@@ -38,7 +44,7 @@ impl Lent {
 
 macro_rules! build {
     ($name:ident, $krate:ident) => {
-        mod $name {
+        pub mod $name {
             use super::{End, Lent, OsStrExt, Path, PathBuf, Settings, io};
             use $krate::{
                 EnforceExtension, FileMetadata, FileSystem, FileSystemOs, ResolveError, ResolveOptions, ResolverGeneric, SpecifierError,
@@ -112,8 +118,8 @@ macro_rules! build {
                 }
             }
 
-            pub fn resolver(lent: Lent, settings: &Settings) -> ResolverGeneric<Lent> {
-                ResolverGeneric::new_with_file_system(lent, options(settings))
+            pub fn resolver(lent: Lent, options: ResolveOptions) -> ResolverGeneric<Lent> {
+                ResolverGeneric::new_with_file_system(lent, options)
             }
 
             /// Document 01's number and texts of what the Rust gave back.
@@ -146,12 +152,11 @@ build!(logged, oxc_logged);
 build!(plain, oxc_plain);
 
 fn both(tree: &Tree, settings: &Settings, start: &Path, specifier: &str) -> Result<(End, Vec<Consult>), String> {
-    let tree = Arc::new(tree.clone());
+    let unlogged = Lent::new(tree);
     let log = Log::default();
-    let lent = Lent { tree: Arc::clone(&tree), log: Some(Arc::clone(&log)) };
-    let end = logged::end(logged::resolver(lent, settings).oracle_lookup(start, specifier))?;
-    let lent = Lent { tree, log: None };
-    let other = plain::end(plain::resolver(lent, settings).oracle_lookup(start, specifier))?;
+    let lent = Lent { log: Some(Arc::clone(&log)), ..unlogged.clone() };
+    let end = logged::end(logged::resolver(lent, logged::options(settings)).oracle_lookup(start, specifier))?;
+    let other = plain::end(plain::resolver(unlogged, plain::options(settings)).oracle_lookup(start, specifier))?;
     if end != other {
         return Err(format!("the two builds differ: {end:?} and {other:?}"));
     }

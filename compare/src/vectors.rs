@@ -210,7 +210,7 @@ impl<'a> Reader<'a> {
         let (start, specifier) = (self.take(length(2))?, self.take(length(3))?);
         let rooms = Rooms { result: length(4), numbers: length(5), list: length(6), work: length(7) };
         let lengths = [number(9), number(10), number(11)];
-        let mut left = Left { number: number(8), lengths, ..empty(rooms) };
+        let mut left = Left { number: number(8), lengths, ..Left::filled(rooms, 0) };
         let result = self.take(lengths.iter().sum::<u32>() as usize)?;
         left.result[..result.len()].copy_from_slice(result);
         self.list(&mut left, length(12), length(13))?;
@@ -240,17 +240,6 @@ impl<'a> Reader<'a> {
     }
 }
 
-fn empty(rooms: Rooms) -> Left {
-    Left {
-        number: 0,
-        lengths: [0; 3],
-        result: vec![0; rooms.result],
-        numbers: vec![0; rooms.numbers],
-        list: vec![0; rooms.list],
-        work: vec![0; rooms.work],
-    }
-}
-
 /// Replays the vectors through the product.
 pub fn replay(file: &str) -> bool {
     let Ok(bytes) = std::fs::read(file) else { return false };
@@ -262,7 +251,7 @@ pub fn replay(file: &str) -> bool {
             println!("case {number} is cut short");
             return false;
         };
-        if product::call(&case, rooms) != left {
+        if product::call(case.question(), rooms) != left {
             faults += 1;
             println!("FAULT vector {number}");
             crate::print_case(&case);
