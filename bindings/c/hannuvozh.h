@@ -19,7 +19,7 @@ extern "C" {
 enum {
     HANNUVOZH_FOUND = 0,                            /* path, query, fragment (a missing one is empty) */
     HANNUVOZH_NOT_FOUND = 1,                        /* specifier: no file fits the name */
-    HANNUVOZH_EMPTY_TARGET = 2,                     /* target: an exports target that names no path */
+    HANNUVOZH_EMPTY = 2,                            /* target: an exports target that names no path */
     HANNUVOZH_INVALID_PACKAGE_TARGET = 3,           /* target, key, manifest path: a target without "./", or through ".." or node_modules */
     HANNUVOZH_PACKAGE_PATH_NOT_EXPORTED = 4,        /* subpath, package path: the package's exports do not give the subpath */
     HANNUVOZH_INVALID_PACKAGE_CONFIG = 5,           /* manifest path: exports mix subpath keys and conditions */

@@ -28,7 +28,7 @@ pub enum Answer {
         specifier: String,
     },
     /// 2: an exports target is empty, or nothing but a query or fragment.
-    EmptyTarget {
+    Empty {
         /// The target as the manifest has it.
         target: String,
     },
@@ -71,7 +71,7 @@ impl Answer {
         Some(match number {
             0 => Self::Found { path: first, query: second, fragment: third },
             1 => Self::NotFound { specifier: first },
-            2 => Self::EmptyTarget { target: first },
+            2 => Self::Empty { target: first },
             3 => Self::InvalidPackageTarget { target: first, key: second, manifest: third },
             4 => Self::PackagePathNotExported { subpath: first, package: second },
             5 => Self::InvalidPackageConfig { manifest: first },
@@ -87,7 +87,7 @@ impl Answer {
         match self {
             Self::Found { .. } => 0,
             Self::NotFound { .. } => 1,
-            Self::EmptyTarget { .. } => 2,
+            Self::Empty { .. } => 2,
             Self::InvalidPackageTarget { .. } => 3,
             Self::PackagePathNotExported { .. } => 4,
             Self::InvalidPackageConfig { .. } => 5,
@@ -102,7 +102,7 @@ impl Answer {
         let number = self.number();
         match self {
             Self::Found { path, query, fragment } => format!("{number} {path}{query}{fragment}"),
-            Self::NotFound { specifier: text } | Self::EmptyTarget { target: text } => format!("{number} {text}"),
+            Self::NotFound { specifier: text } | Self::Empty { target: text } => format!("{number} {text}"),
             Self::InvalidPackageTarget { target, key, manifest } => format!("{number} {target} {key} {manifest}"),
             Self::PackagePathNotExported { subpath, package } => format!("{number} {subpath} {package}"),
             Self::InvalidPackageConfig { manifest } | Self::InvalidPackageConfigDirectory { manifest } | Self::Json { manifest } => {
@@ -117,7 +117,7 @@ impl fmt::Display for Answer {
         match self {
             Self::Found { path, query, fragment } => write!(f, "found {path}{query}{fragment}"),
             Self::NotFound { specifier } => write!(f, "not found: no file for {specifier}"),
-            Self::EmptyTarget { target } => write!(f, "the exports target \"{target}\" names no path"),
+            Self::Empty { target } => write!(f, "the exports target \"{target}\" names no path"),
             Self::InvalidPackageTarget { target, key, manifest } => {
                 write!(f, "the exports target \"{target}\" under \"{key}\" in {manifest} is not allowed")
             }

@@ -33,7 +33,7 @@ fn every_answer() {
     let found = answer(r#"{"exports":"./x.js?q#f"}"#, &["x.js"], "m");
     assert_eq!(found, Answer::Found { path: "/p/node_modules/m/x.js".into(), query: "?q".into(), fragment: "#f".into() });
     assert_eq!(answer("{}", &[], "m/y"), Answer::NotFound { specifier: "m/y".into() });
-    assert_eq!(answer(r#"{"exports":"?q"}"#, &[], "m"), Answer::EmptyTarget { target: "?q".into() });
+    assert_eq!(answer(r#"{"exports":"?q"}"#, &[], "m"), Answer::Empty { target: "?q".into() });
     let invalid = Answer::InvalidPackageTarget { target: "./../b".into(), key: "./*".into(), manifest: manifest.clone() };
     assert_eq!(answer(r#"{"exports":{"./*":"./*"}}"#, &[], "m/../b"), invalid);
     let unexported = Answer::PackagePathNotExported { subpath: "./y".into(), package: "/p/node_modules/m".into() };
