@@ -5,6 +5,7 @@
 //!   compare garbage N [SEED]    N calls with damaged and random bytes and buffer lengths (demand 1)
 //!   compare vectors FILE        writes chosen cases with the Rust's answers
 //!   compare replay FILE         replays them through the product
+//!   compare real FOLDER [FILE]  a real tree's dependencies; FILE holds what Node.js resolves (compare/resolve.mjs)
 //!   compare one NUMBER [SEED]   one case, in words
 
 mod broken;
@@ -19,6 +20,7 @@ mod names;
 mod pairs;
 mod points;
 mod product;
+mod real;
 mod rng;
 #[cfg_attr(not(rust), path = "no_rust.rs")]
 mod rust;
@@ -82,6 +84,10 @@ fn print_left(name: &str, left: &Left) {
 }
 
 impl Report {
+    fn new() -> Self {
+        Self { marks: points::no_marks(), ..Self::default() }
+    }
+
     fn fault(&mut self, number: &str, case: &Case, words: &str) {
         self.faults += 1;
         if self.faults <= 20 {
@@ -173,7 +179,7 @@ fn wanted(report: &Report, count: u64) -> bool {
 }
 
 fn compare(count: u64, seed: u64) -> bool {
-    let mut report = Report { marks: points::no_marks(), ..Report::default() };
+    let mut report = Report::new();
     println!("{}", if rust::AT_HAND { "beside the Rust" } else { "the Rust is not at hand: the harness's own walk stands in its place" });
     for (i, case) in broken::fixed().iter().enumerate() {
         report.ask(&format!("fixed {i}"), case);
@@ -210,6 +216,11 @@ fn run() -> Option<bool> {
             _ => {}
         }
     }
+    if let [mode, folder, node @ ..] = &args[..]
+        && mode == "real"
+    {
+        return Some(real::run(folder, node.first().map(String::as_str)));
+    }
     let number = |at: usize, default: u64| args.get(at).map_or(Some(default), |text| text.parse().ok());
     let seed = number(2, SEED)?;
     Some(match args.first()?.as_str() {
@@ -228,7 +239,9 @@ fn main() -> ExitCode {
         Some(true) => ExitCode::SUCCESS,
         Some(false) => ExitCode::FAILURE,
         None => {
-            eprintln!("compare cases N [SEED] | pairs N [SEED] | garbage N [SEED] | vectors FILE | replay FILE | one NUMBER [SEED]");
+            eprintln!(
+                "compare cases N [SEED] | pairs N [SEED] | garbage N [SEED] | vectors FILE | replay FILE | real FOLDER [FILE] | one NUMBER [SEED]"
+            );
             ExitCode::FAILURE
         }
     }
