@@ -1,8 +1,8 @@
-//! Times whole lookups, the product's and the Rust's, over the same questions in one run, and draws a plot. bench/run builds and starts it.
+//! Times whole lookups, the product's and the Rust's, over the same questions in one run, and draws a plot. bench/run builds it.
 //!
-//! The product's time is taken apart through calls that are refused: with work memory one byte short (25) a call only clears its buffers; with an empty
-//! specifier (22) it checks settings and listing too. The Rust checks no listing; fresh, it is asked with a new resolver each time, as a job would; warm,
-//! with one that has answered all the questions before.
+//! The product's time is taken apart through calls that are refused: with work memory one byte short (25) a call only clears its
+//! buffers; with an empty specifier (22) it checks settings and listing too. The Rust checks no listing; fresh, it is asked with a new
+//! resolver each time, as a job would; warm, with one that has answered all the questions before.
 
 #![allow(dead_code)]
 
@@ -163,9 +163,9 @@ fn row(job: &Job, figures: &Figures) {
 }
 
 fn compare(jobs: &[Job]) -> Vec<Figures> {
-    println!(
-        "| questions | entries | asked | consults, mean | product, ns | of it clearing | of it check | Rust fresh, ns | product / fresh | without check | Rust warm, ns | product / warm |"
-    );
+    let heads = ["questions", "entries", "asked", "consults, mean", "product, ns", "of it clearing", "of it check"];
+    let beside = ["Rust fresh, ns", "product / fresh", "without check", "Rust warm, ns", "product / warm"];
+    println!("| {} | {} |", heads.join(" | "), beside.join(" | "));
     println!("|---|---|---|---|---|---|---|---|---|---|---|---|");
     jobs.iter()
         .map(|job| {

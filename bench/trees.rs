@@ -38,33 +38,42 @@ pub fn printed() -> Job {
 
 #[rustfmt::skip]
 const PACKAGES: [&str; 60] = [
-    "element-beam", "element-shell", "element-solid", "element-truss", "element-spring", "element-contact", "mesh-core", "mesh-quality", "mesh-refine", "mesh-import",
-    "solver-direct", "solver-iterative", "solver-modal", "solver-implicit", "solver-explicit", "post-stress", "post-plot", "post-report", "units", "tensor",
-    "sparse", "dense", "ordering", "partition", "quadrature", "shape-functions", "load-cases", "constraints", "materials-base", "fatigue",
-    "@materials/steel", "@materials/aluminium", "@materials/titanium", "@materials/rubber", "@materials/composite", "@materials/concrete", "@materials/wood", "@materials/plastic",
-    "@vendor/licence", "@vendor/telemetry", "@vendor/preprocess", "@vendor/viewer", "@vendor/cad-import", "@vendor/step", "@vendor/iges",
-    "logger", "config", "csv", "table", "queue", "semver", "glob", "colour", "text-wrap", "argument", "cache", "retry", "deep-equal", "uuid", "clock",
+    "element-beam", "element-shell", "element-solid", "element-truss", "element-spring", "element-contact", "mesh-core",
+    "mesh-quality", "mesh-refine", "mesh-import", "solver-direct", "solver-iterative", "solver-modal", "solver-implicit",
+    "solver-explicit", "post-stress", "post-plot", "post-report", "units", "tensor", "sparse", "dense", "ordering", "partition",
+    "quadrature", "shape-functions", "load-cases", "constraints", "materials-base", "fatigue", "@materials/steel",
+    "@materials/aluminium", "@materials/titanium", "@materials/rubber", "@materials/composite", "@materials/concrete",
+    "@materials/wood", "@materials/plastic", "@vendor/licence", "@vendor/telemetry", "@vendor/preprocess", "@vendor/viewer",
+    "@vendor/cad-import", "@vendor/step", "@vendor/iges", "logger", "config", "csv", "table", "queue", "semver", "glob", "colour",
+    "text-wrap", "argument", "cache", "retry", "deep-equal", "uuid", "clock",
 ];
 
-/// The package's manifest: exports with conditions, exports with a star, a main field, or neither.
+/// The ways into a package: exports with conditions, exports with a star, a main field, or none but index.js.
+const WAYS: [&str; 4] = [
+    r#"  "main": "./index.js",
+  "exports": {
+    ".": { "import": "./index.mjs", "require": "./index.js" },
+    "./package.json": "./package.json"
+  },
+"#,
+    r#"  "exports": {
+    ".": { "node": { "import": "./index.mjs", "default": "./index.js" }, "default": "./index.js" },
+    "./*": "./lib/*.js",
+    "./lib/*": null
+  },
+"#,
+    r#"  "main": "lib/main",
+  "files": ["lib"],
+"#,
+    r#"  "keywords": ["fe", "job"],
+"#,
+];
+
 fn manifest(i: usize, name: &str) -> String {
     let head = format!("{{\n  \"name\": \"{name}\",\n  \"version\": \"{}.{}.0\",\n  \"license\": \"MIT\",\n", i % 7, i % 11);
-    let dependencies = format!(
-        "  \"dependencies\": {{ \"{}\": \"^1.0.0\", \"{}\": \"~2.1.0\" }}\n}}\n",
-        PACKAGES[(i * 7 + 3) % 60],
-        PACKAGES[(i * 11 + 5) % 60]
-    );
-    let way = match i % 4 {
-        0 => {
-            "  \"main\": \"./index.js\",\n  \"exports\": {\n    \".\": { \"import\": \"./index.mjs\", \"require\": \"./index.js\" },\n    \"./package.json\": \"./package.json\"\n  },\n"
-        }
-        1 => {
-            "  \"exports\": {\n    \".\": { \"node\": { \"import\": \"./index.mjs\", \"default\": \"./index.js\" }, \"default\": \"./index.js\" },\n    \"./*\": \"./lib/*.js\",\n    \"./lib/*\": null\n  },\n"
-        }
-        2 => "  \"main\": \"lib/main\",\n  \"files\": [\"lib\"],\n",
-        _ => "  \"keywords\": [\"fe\", \"job\"],\n",
-    };
-    [&head, way, &dependencies].concat()
+    let (one, other) = (PACKAGES[(i * 7 + 3) % 60], PACKAGES[(i * 11 + 5) % 60]);
+    let dependencies = format!("  \"dependencies\": {{ \"{one}\": \"^1.0.0\", \"{other}\": \"~2.1.0\" }}\n}}\n");
+    [&head, WAYS[i % 4], &dependencies].concat()
 }
 
 /// 300 entries and 60 packages: 48 in the project's node_modules, 12 nested in others; and 100 questions.
@@ -142,8 +151,8 @@ pub fn sized(entries: usize) -> Job {
 
 // ---------------------------------------------------------------- the longest list
 
-/// The longest list that was found for a start of this depth: a name that climbs out of its package, so that the walk is made twice, and in every directory
-/// of the climb a directory that it leads to, whose four main fields lead nowhere.
+/// The longest list that was found for a start of this depth: a name that climbs out of its package, so that the walk is made twice,
+/// and in every directory of the climb a directory that it leads to, whose four main fields lead nowhere.
 pub fn longest(depth: usize) -> Job {
     let mut tree = Tree::new();
     add(&mut tree, &"/a".repeat(depth), None);

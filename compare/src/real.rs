@@ -1,8 +1,8 @@
 //! A real tree: a folder with node_modules, every dependency name asked for from where it is required.
 //!
-//! A listing holds at most 1,024 entries, so it is cut for each question: it begins with the start and the directories above it, and grows by the first
-//! consulted path that the folder has and the listing had not, until there is none. The cut listing then agrees with the whole folder at every consulted
-//! path, and the Rust asked about the whole folder must give the same answer and list.
+//! A listing holds at most 1,024 entries, so it is cut for each question: it begins with the start and the directories above it, and
+//! grows by the first consulted path that the folder has and the listing had not, until there is none. The cut listing then agrees with
+//! the whole folder at every consulted path, and the Rust asked about the whole folder must give the same answer and list.
 
 use crate::cases::{Case, World};
 use crate::json::{self, Json};
