@@ -74,13 +74,23 @@ fn print_left(name: &str, left: &Left) {
     let end = left.result.iter().rposition(|&b| b != 0).map_or(0, |at| at + 1);
     println!("  {name}: {} {:?} {:?}", left.number, left.lengths, shown(&left.result[..end]));
     let count = left.numbers.first().map_or(0, |&n| n as usize);
-    let mut at = 0;
-    for i in 0..count.min(left.numbers.len().saturating_sub(2) / 2) {
-        let end = (at + left.numbers[2 + i] as usize).min(left.list.len());
-        println!("    {} {}", left.numbers[2 + count + i], shown(&left.list[at..end]));
-        at = end;
+    if 2 + 2 * count > left.numbers.len() {
+        println!("    a count of {count} in {} list numbers", left.numbers.len());
+    } else {
+        print_list(&left.numbers[2..2 + 2 * count], &left.list);
     }
     println!("    work {}", if left.work.iter().all(|&b| b == 0) { "zeros" } else { "not cleared" });
+}
+
+/// Lengths, then states, and the text that the lengths cut.
+fn print_list(numbers: &[u32], text: &[u8]) {
+    let (lengths, states) = numbers.split_at(numbers.len() / 2);
+    let mut at = 0;
+    for (&length, state) in lengths.iter().zip(states) {
+        let end = at.max((at + length as usize).min(text.len()));
+        println!("    {state} {}", shown(&text[at..end]));
+        at = end;
+    }
 }
 
 impl Report {
