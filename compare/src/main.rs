@@ -58,7 +58,7 @@ fn shown(bytes: &[u8]) -> String {
 }
 
 fn print_case(case: &Case) {
-    println!("  start {:?} specifier {:?} room {:?} stated {:?}", shown(&case.start), shown(&case.specifier), case.room, case.stated);
+    println!("  start \"{}\" specifier \"{}\" room {:?} stated {:?}", shown(&case.start), shown(&case.specifier), case.room, case.stated);
     println!("  settings {}", shown(&case.settings));
     match lent::read_listing(&case.listing) {
         Err(number) => println!("  listing refused as {number}: {}", shown(&case.listing)),
@@ -72,7 +72,7 @@ fn print_case(case: &Case) {
 
 fn print_left(name: &str, left: &Left) {
     let end = left.result.iter().rposition(|&b| b != 0).map_or(0, |at| at + 1);
-    println!("  {name}: {} {:?} {:?}", left.number, left.lengths, shown(&left.result[..end]));
+    println!("  {name}: {} {:?} \"{}\"", left.number, left.lengths, shown(&left.result[..end]));
     let count = left.numbers.first().map_or(0, |&n| n as usize);
     if 2 + 2 * count > left.numbers.len() {
         println!("    a count of {count} in {} list numbers", left.numbers.len());
