@@ -178,8 +178,8 @@ pub fn write(file: &str, seed: u64) -> bool {
     };
     let bytes = [&chosen.count.to_le_bytes()[..], &chosen.out].concat();
     println!("{} cases in {} bytes; by number: {:?}", chosen.count, bytes.len(), chosen.numbers);
-    let missing = points::POINTS.iter().zip(&chosen.marks).filter(|point| *point.1 == 0);
-    missing.for_each(|point| println!("not reached: {}", point.0));
+    let fewest = points::POINTS.iter().zip(&chosen.marks).min_by_key(|point| point.1);
+    fewest.iter().for_each(|(words, count)| println!("the fewest cases reach \"{words}\": {count}"));
     std::fs::write(file, bytes).is_ok()
 }
 
