@@ -1,0 +1,172 @@
+//! The trees and questions that are timed; the same in every run.
+
+use crate::lent::{Settings, Tree};
+
+pub struct Job {
+    pub name: String,
+    pub tree: Tree,
+    pub settings: Settings,
+    /// Start and specifier.
+    pub questions: Vec<(String, String)>,
+}
+
+fn settings(texts: [&[&str]; 5]) -> Settings {
+    texts.map(|texts| texts.iter().map(|text| text.as_bytes().to_vec()).collect())
+}
+
+fn add(tree: &mut Tree, path: &str, contents: Option<String>) {
+    for (at, _) in path.match_indices('/') {
+        tree.entry(path[..at.max(1)].as_bytes().to_vec()).or_insert(None);
+    }
+    tree.insert(path.as_bytes().to_vec(), contents.map(String::into_bytes));
+}
+
+fn file(tree: &mut Tree, path: &str) {
+    add(tree, path, Some(String::new()));
+}
+
+/// Document 01's printed example.
+pub fn printed() -> Job {
+    let mut tree = Tree::new();
+    file(&mut tree, "/p/node_modules/mat/lib/steel.js");
+    add(&mut tree, "/p/node_modules/mat/package.json", Some(r#"{"exports":{"./*":"./lib/*.js"}}"#.into()));
+    let settings = settings([&["import"], &[".js"], &["main"], &["index"], &["exports"]]);
+    Job { name: "printed example".into(), tree, settings, questions: vec![("/p".into(), "mat/steel".into())] }
+}
+
+// ---------------------------------------------------------------- a job as designers bring them
+
+#[rustfmt::skip]
+const PACKAGES: [&str; 60] = [
+    "element-beam", "element-shell", "element-solid", "element-truss", "element-spring", "element-contact", "mesh-core",
+    "mesh-quality", "mesh-refine", "mesh-import", "solver-direct", "solver-iterative", "solver-modal", "solver-implicit",
+    "solver-explicit", "post-stress", "post-plot", "post-report", "units", "tensor", "sparse", "dense", "ordering", "partition",
+    "quadrature", "shape-functions", "load-cases", "constraints", "materials-base", "fatigue", "@materials/steel",
+    "@materials/aluminium", "@materials/titanium", "@materials/rubber", "@materials/composite", "@materials/concrete",
+    "@materials/wood", "@materials/plastic", "@vendor/licence", "@vendor/telemetry", "@vendor/preprocess", "@vendor/viewer",
+    "@vendor/cad-import", "@vendor/step", "@vendor/iges", "logger", "config", "csv", "table", "queue", "semver", "glob", "colour",
+    "text-wrap", "argument", "cache", "retry", "deep-equal", "uuid", "clock",
+];
+
+/// The ways into a package: exports with conditions, exports with a star, a main field, or none but index.js.
+const WAYS: [&str; 4] = [
+    r#"  "main": "./index.js",
+  "exports": {
+    ".": { "import": "./index.mjs", "require": "./index.js" },
+    "./package.json": "./package.json"
+  },
+"#,
+    r#"  "exports": {
+    ".": { "node": { "import": "./index.mjs", "default": "./index.js" }, "default": "./index.js" },
+    "./*": "./lib/*.js",
+    "./lib/*": null
+  },
+"#,
+    r#"  "main": "lib/main",
+  "files": ["lib"],
+"#,
+    r#"  "keywords": ["fe", "job"],
+"#,
+];
+
+fn manifest(i: usize, name: &str) -> String {
+    let head = format!("{{\n  \"name\": \"{name}\",\n  \"version\": \"{}.{}.0\",\n  \"license\": \"MIT\",\n", i % 7, i % 11);
+    let (one, other) = (PACKAGES[(i * 7 + 3) % 60], PACKAGES[(i * 11 + 5) % 60]);
+    let dependencies = format!("  \"dependencies\": {{ \"{one}\": \"^1.0.0\", \"{other}\": \"~2.1.0\" }}\n}}\n");
+    [&head, WAYS[i % 4], &dependencies].concat()
+}
+
+/// 300 entries and 60 packages: 48 in the project's node_modules, 12 nested in others; and 100 questions.
+pub fn realistic() -> Job {
+    let mut tree = Tree::new();
+    add(&mut tree, "/job/package.json", Some("{ \"name\": \"bracket\", \"private\": true }".into()));
+    for name in ["run.js", "model/bracket.js", "model/loads.js", "post/report.js"] {
+        file(&mut tree, &format!("/job/src/{name}"));
+    }
+    let home = |i: usize| match i {
+        0..48 => format!("/job/node_modules/{}", PACKAGES[i]),
+        _ => format!("/job/node_modules/{}/node_modules/{}", PACKAGES[(i - 48) * 2], PACKAGES[i]),
+    };
+    for (i, name) in PACKAGES.iter().enumerate() {
+        add(&mut tree, &format!("{}/package.json", home(i)), Some(manifest(i, name)));
+        let main = if i % 4 == 2 { "lib/main.js" } else { "index.js" };
+        file(&mut tree, &format!("{}/{main}", home(i)));
+        if i % 4 == 1 {
+            file(&mut tree, &format!("{}/lib/core.js", home(i)));
+        }
+    }
+    for i in 0.. {
+        if tree.len() >= 300 {
+            break;
+        }
+        file(&mut tree, &format!("/job/src/model/part{i:02}.js"));
+    }
+    let settings = settings([&["node", "require"], &[".js", ".json", ".node"], &["main"], &["index"], &["exports"]]);
+    Job { name: "realistic tree".into(), tree, settings, questions: questions(home) }
+}
+
+/// From the sources, for each package; from packages, for what they depend on; and some names that lead nowhere.
+fn questions(home: impl Fn(usize) -> String) -> Vec<(String, String)> {
+    let mut all = Vec::new();
+    for (i, name) in PACKAGES.iter().enumerate().take(48) {
+        let start = ["/job/src", "/job/src/model", "/job/src/post"][i % 3];
+        all.push((start.to_string(), if i % 4 == 1 && i % 8 == 1 { format!("{name}/core") } else { (*name).to_string() }));
+    }
+    for i in 0..42 {
+        let from = (i * 5) % 60;
+        all.push((home(from), PACKAGES[(from * 7 + 3) % 48].to_string()));
+    }
+    for i in 0..5 {
+        all.push(("/job/src/model".into(), format!("missing-{i}")));
+        all.push(("/job/src".into(), format!("{}/gone/{i}", PACKAGES[i * 3 + 2])));
+    }
+    all
+}
+
+// ---------------------------------------------------------------- trees by size
+
+/// A tree of so many entries, in packages of four, and up to twenty questions spread over them.
+pub fn sized(entries: usize) -> Job {
+    let mut tree = Tree::new();
+    add(&mut tree, "/p/node_modules", None);
+    let mut packages = 0;
+    while tree.len() + 4 <= entries {
+        let home = format!("/p/node_modules/k{packages:03}");
+        add(&mut tree, &format!("{home}/package.json"), Some(r#"{"exports":{"./*":"./*.js"}}"#.into()));
+        file(&mut tree, &format!("{home}/index.js"));
+        file(&mut tree, &format!("{home}/x.js"));
+        packages += 1;
+    }
+    for i in 0.. {
+        if tree.len() >= entries {
+            break;
+        }
+        file(&mut tree, &format!("/p/z{i}"));
+    }
+    let asked = packages.min(20);
+    let questions = (0..asked).map(|i| ("/p".to_string(), format!("k{:03}/x", i * packages / asked))).collect();
+    let settings = settings([&["import"], &[".js"], &["main"], &["index"], &["exports"]]);
+    Job { name: format!("{entries} entries"), tree, settings, questions }
+}
+
+// ---------------------------------------------------------------- the longest list
+
+/// The longest list that was found for a start of this depth: a name that climbs out of its package, so that the walk is made twice,
+/// and in every directory of the climb a directory that it leads to, whose four main fields lead nowhere.
+pub fn longest(depth: usize) -> Job {
+    let mut tree = Tree::new();
+    add(&mut tree, &"/a".repeat(depth), None);
+    let mains = r#"{"m1":"x1","m2":"x2","m3":"x3","m4":"x4"}"#;
+    for k in 0..=depth.min(31) {
+        let directory = "/a".repeat(k);
+        add(&mut tree, &format!("{directory}/node_modules"), None);
+        add(&mut tree, &format!("{directory}/y"), None);
+        if k <= 30 {
+            add(&mut tree, &format!("{directory}/node_modules/x-.."), None);
+            add(&mut tree, &format!("{directory}/y/package.json"), Some(mains.into()));
+        }
+    }
+    let extensions = [".1", ".2", ".3", ".4", ".5", ".6", ".7", ".8"];
+    let settings = settings([&[], &extensions, &["m1", "m2", "m3", "m4"], &["f1", "f2", "f3", "f4"], &["exports"]]);
+    Job { name: "longest list".into(), tree, settings, questions: vec![("/a".repeat(depth), "x-../../../y".into())] }
+}

@@ -1,0 +1,101 @@
+//! A question for each answer and each refusal that a caller of this crate can meet.
+
+use hannuvozh::{Answer, Buffers, Listing, Lookup, Refusal, Settings, State, lookup};
+
+/// Package m in `/p/node_modules` with this manifest and these files.
+fn ask(manifest: &str, files: &[&str], specifier: &str) -> Result<Lookup, Refusal> {
+    let mut listing = Listing::new();
+    listing.manifest("/p/node_modules/m", manifest);
+    for file in files {
+        listing.file(format!("/p/node_modules/m/{file}"));
+    }
+    lookup(&listing.to_bytes(), &Settings::example().to_bytes(), "/p", specifier)
+}
+
+fn answer(manifest: &str, files: &[&str], specifier: &str) -> Answer {
+    ask(manifest, files, specifier).unwrap().answer().clone()
+}
+
+#[test]
+fn printed_example() {
+    let mut listing = Listing::new();
+    listing.file("/p/node_modules/mat/lib/steel.js").manifest("/p/node_modules/mat", r#"{"exports":{"./*":"./lib/*.js"}}"#);
+    let looked = lookup(&listing.to_bytes(), &Settings::example().to_bytes(), "/p", "mat/steel").unwrap();
+    let lines = "0 /p/node_modules/mat/lib/steel.js\n0 /p/package.json\n0 /package.json\n1 /p\n1 /p/node_modules\n\
+                 1 /p/node_modules/mat\n3 /p/node_modules/mat/package.json\n2 /p/node_modules/mat/lib/steel.js\n";
+    assert_eq!(looked.printed(), lines);
+    assert_eq!(looked.consults().map(|consult| consult.state).nth(5), Some(State::ManifestRead));
+}
+
+#[test]
+fn every_answer() {
+    let manifest = "/p/node_modules/m/package.json".to_string();
+    let found = answer(r#"{"exports":"./x.js?q#f"}"#, &["x.js"], "m");
+    assert_eq!(found, Answer::Found { path: "/p/node_modules/m/x.js".into(), query: "?q".into(), fragment: "#f".into() });
+    assert_eq!(answer("{}", &[], "m/y"), Answer::NotFound { specifier: "m/y".into() });
+    assert_eq!(answer(r#"{"exports":"?q"}"#, &[], "m"), Answer::Empty { target: "?q".into() });
+    let invalid = Answer::InvalidPackageTarget { target: "./../b".into(), key: "./*".into(), manifest: manifest.clone() };
+    assert_eq!(answer(r#"{"exports":{"./*":"./*"}}"#, &[], "m/../b"), invalid);
+    let unexported = Answer::PackagePathNotExported { subpath: "./y".into(), package: "/p/node_modules/m".into() };
+    assert_eq!(answer(r#"{"exports":"./x.js"}"#, &[], "m/y"), unexported);
+    assert_eq!(answer(r#"{"exports":{".":"./a","b":"./b"}}"#, &[], "m"), Answer::InvalidPackageConfig { manifest: manifest.clone() });
+    let folder = Answer::InvalidPackageConfigDirectory { manifest: manifest.clone() };
+    assert_eq!(answer(r#"{"exports":{"./f/":"./g"}}"#, &[], "m/f/x"), folder);
+    assert_eq!(answer("{", &[], "m"), Answer::Json { manifest });
+}
+
+#[test]
+fn numbers_and_printed_forms_agree() {
+    for (manifest, number) in [("{}", "1 m"), (r#"{"exports":""}"#, "2 "), (r#"{"exports":null}"#, "4 . /p/node_modules/m")] {
+        let answer = answer(manifest, &[], "m");
+        assert_eq!(answer.printed(), number);
+        assert!(number.starts_with(&answer.number().to_string()));
+    }
+}
+
+#[test]
+fn refusals() {
+    let (listing, settings) = (Listing::new().directory("/p").to_bytes(), Settings::example().to_bytes());
+    assert_eq!(lookup(&listing, &settings, "/p", "../a"), Err(Refusal::Specifier));
+    assert_eq!(lookup(&listing, &settings, "/q", "a"), Err(Refusal::Start));
+    assert_eq!(lookup(&listing, b"", "/p", "a"), Err(Refusal::Settings));
+    assert_eq!(lookup(b"", &settings, "/p", "a"), Err(Refusal::ListingSizes));
+    assert_eq!(lookup(&Listing::new().file("/.").to_bytes(), &settings, "/", "a"), Err(Refusal::ListingPaths));
+    assert_eq!(lookup(&Listing::new().directory("/package.json").to_bytes(), &settings, "/", "a"), Err(Refusal::ManifestDirectory));
+    assert_eq!(ask(&" ".repeat(16_385), &[], "m"), Err(Refusal::ManifestLimit));
+    assert_eq!(ask(r#"{"a":1,"a":2}"#, &[], "m"), Err(Refusal::MemberTwice));
+    let long = format!("m/{}", "x".repeat(500));
+    assert_eq!(ask(r#"{"exports":{"./*":"./*****"}}"#, &[], &long), Err(Refusal::PathTooLong));
+}
+
+#[test]
+fn settings_over_their_limits_are_refused_however_far() {
+    let listing = Listing::new().to_bytes();
+    let mut many = Settings::new();
+    for _ in 0..300 {
+        many = many.condition("a");
+    }
+    assert_eq!(lookup(&listing, &many.to_bytes(), "/", "a"), Err(Refusal::Settings));
+    let long = Settings::new().main_file(&"a".repeat(300));
+    assert_eq!(lookup(&listing, &long.to_bytes(), "/", "a"), Err(Refusal::Settings));
+}
+
+/// A list that is longer than the first buffers.
+#[test]
+fn buffers_grow() {
+    let mut listing = Listing::new();
+    let mut start = String::new();
+    for _ in 0..30 {
+        start += "/directory-of-30-bytes-and-more";
+        listing.directory(format!("{start}/node_modules/a"));
+    }
+    let mut settings = Settings::example();
+    for i in 0..7 {
+        settings = settings.extension(&format!(".{i}"));
+    }
+    let mut buffers = Buffers::new();
+    let long = buffers.lookup(&listing.to_bytes(), &settings.to_bytes(), &start, "a").unwrap();
+    assert!(long.consults().len() > 256, "{}", long.consults().len());
+    let fresh = lookup(&listing.to_bytes(), &settings.to_bytes(), &start, "a").unwrap();
+    assert_eq!(long, fresh);
+}

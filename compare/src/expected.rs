@@ -1,0 +1,156 @@
+//! What a call must leave, worked out without the product: refusals before the lookup from document 01's words, the answer and
+//! list from the Rust, refusals 40 to 42 from the harness's own walk, and 20 and 21 from the buffers' lengths.
+
+use crate::cases::{Case, Room};
+use crate::lent::{Settings, Tree, is_specifier, read_listing, read_settings};
+use crate::model::{self, Consult, End, Walked};
+use crate::points::Marks;
+use crate::product::{Left, Rooms};
+use crate::rust;
+
+/// A question that none of 25 to 23 refuses.
+pub struct Accepted {
+    pub tree: Tree,
+    pub settings: Settings,
+}
+
+/// The refusals before the lookup, in document 01's order: 25, 24, 30, 31, 32, 22, 23.
+pub fn accept(case: &Case, work: usize) -> Result<Accepted, u32> {
+    if work < 32_768 {
+        return Err(25);
+    }
+    let settings = read_settings(&case.settings).ok_or(24u32)?;
+    let tree = read_listing(&case.listing)?;
+    if !is_specifier(&case.specifier) {
+        return Err(22);
+    }
+    if tree.get(&case.start) != Some(&None) {
+        return Err(23);
+    }
+    Ok(Accepted { tree, settings })
+}
+
+/// Who decided a case.
+#[derive(Clone, Copy, PartialEq, Eq)]
+pub enum By {
+    /// Document 01: a refusal.
+    Scope,
+    /// The Rust.
+    Rust,
+    /// RFC 8259 and document 01 on JSON, against the Rust.
+    Json,
+    /// The harness's own walk, the Rust not being at hand.
+    Walk,
+}
+
+pub struct Expected {
+    pub end: End,
+    pub list: Vec<Consult>,
+    pub by: By,
+    /// What the lookup reached; none where it was not begun.
+    pub marks: Option<Marks>,
+}
+
+fn refused(number: u32, marks: Option<Marks>) -> Expected {
+    Expected { end: End { number, texts: Vec::new() }, list: Vec::new(), by: By::Scope, marks }
+}
+
+fn same_lists(one: &[Consult], other: &[Consult]) -> bool {
+    one.len() == other.len() && one.iter().zip(other).all(|(a, b)| a.state == b.state && a.path == b.path)
+}
+
+/// The lookup's answer and list, or its refusal; an error is a fault of the harness.
+fn looked_up(case: &Case, accepted: &Accepted, walked: Walked, beside_rust: bool) -> Result<Expected, String> {
+    if walked.end.is_refusal() {
+        return Ok(refused(walked.end.number, Some(walked.marks)));
+    }
+    let marks = Some(walked.marks);
+    if !beside_rust {
+        return Ok(Expected { end: walked.end, list: walked.list, by: By::Walk, marks });
+    }
+    let (end, list) = rust::ask(&accepted.tree, &accepted.settings, &case.start, &case.specifier)?;
+    if end == walked.end && same_lists(&list, &walked.list) {
+        return Ok(Expected { end, list, by: By::Rust, marks });
+    }
+    if (end.number == 7) != (walked.end.number == 7) {
+        return Ok(Expected { end: walked.end, list: walked.list, by: By::Json, marks });
+    }
+    Err(format!(
+        "the harness's own walk differs from the Rust: {:?} and {end:?}, lists of {} and {}",
+        walked.end,
+        walked.list.len(),
+        list.len()
+    ))
+}
+
+/// What the case must give with long enough outputs; the Rust is asked where it is at hand.
+pub fn expected(case: &Case) -> Result<Expected, String> {
+    decide(case, case.work(), rust::AT_HAND)
+}
+
+pub fn decide(case: &Case, work: usize, beside_rust: bool) -> Result<Expected, String> {
+    match accept(case, work) {
+        Err(number) => Ok(refused(number, None)),
+        Ok(accepted) => {
+            let walked = model::lookup(&accepted.tree, &accepted.settings, &case.start, &case.specifier);
+            let bound = model::formula(&accepted.tree, &accepted.settings, &case.start);
+            if walked.list.len() > bound {
+                return Err(format!("a list of {} consults, over the formula's {bound}", walked.list.len()));
+            }
+            looked_up(case, &accepted, walked, beside_rust)
+        }
+    }
+}
+
+/// The lengths of the buffers that the case asks for.
+pub fn rooms(expected: &Expected, room: Room) -> Rooms {
+    let text = |texts: &mut dyn Iterator<Item = &Vec<u8>>| texts.map(Vec::len).sum::<usize>();
+    let mut rooms = Rooms {
+        result: text(&mut expected.end.texts.iter()),
+        numbers: 2 + 2 * expected.list.len(),
+        list: text(&mut expected.list.iter().map(|consult| &consult.path)),
+        work: 32_768,
+    };
+    if expected.end.is_refusal() {
+        rooms = Rooms { result: 40, numbers: 20, list: 60, work: 32_768 };
+    }
+    match room {
+        Room::More(more) => {
+            let Rooms { result, numbers, list, work } = rooms;
+            rooms = Rooms { result: result + more, numbers: numbers + more, list: list + more, work: work + more };
+        }
+        Room::ResultLess(less) => rooms.result -= less.min(rooms.result),
+        Room::NumbersLess(less) => rooms.numbers -= less.min(rooms.numbers),
+        Room::ListLess(less) => rooms.list -= less.min(rooms.list),
+        Room::Work(work) => rooms.work = work,
+    }
+    rooms
+}
+
+/// What the call must leave in these buffers.
+pub fn left(expected: &Expected, rooms: Rooms) -> Left {
+    let mut left = Left { number: expected.end.number, ..Left::filled(rooms, 0) };
+    if expected.end.is_refusal() {
+        return left;
+    }
+    let result = expected.end.texts.concat();
+    let list: Vec<u8> = expected.list.iter().flat_map(|consult| consult.path.iter().copied()).collect();
+    let count = expected.list.len();
+    if result.len() > rooms.result {
+        left.number = 20;
+    } else if 2 + 2 * count > rooms.numbers || list.len() > rooms.list {
+        left.number = 21;
+    } else {
+        for (length, text) in left.lengths.iter_mut().zip(&expected.end.texts) {
+            *length = text.len() as u32;
+        }
+        left.result[..result.len()].copy_from_slice(&result);
+        left.list[..list.len()].copy_from_slice(&list);
+        left.numbers[..2].copy_from_slice(&[count as u32, list.len() as u32]);
+        for (i, consult) in expected.list.iter().enumerate() {
+            left.numbers[2 + i] = consult.path.len() as u32;
+            left.numbers[2 + count + i] = u32::from(consult.state);
+        }
+    }
+    left
+}

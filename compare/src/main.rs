@@ -1,0 +1,258 @@
+//! The product beside the Rust: the same questions asked of both in one process.
+//!
+//!   compare cases N [SEED]      N distinct cases: number, texts, the whole list, every byte of every buffer
+//!   compare pairs N [SEED]      N pairs of listings that agree where a lookup looked (demand 3)
+//!   compare garbage N [SEED]    N calls with damaged and random bytes and buffer lengths (demand 1)
+//!   compare vectors FILE        writes chosen cases with the Rust's answers
+//!   compare replay FILE         replays them through the product
+//!   compare real FOLDER [FILE]  a real tree's dependencies; FILE holds what Node.js resolves (compare/resolve.mjs)
+//!   compare one NUMBER [SEED]   one case, in words
+
+mod broken;
+mod cases;
+mod expected;
+mod garbage;
+mod json;
+mod lent;
+mod manifests;
+mod model;
+mod names;
+mod pairs;
+mod points;
+mod product;
+mod real;
+mod rng;
+#[cfg_attr(not(rust), path = "no_rust.rs")]
+mod rust;
+mod vectors;
+
+use cases::Case;
+use expected::{By, Expected};
+use product::Left;
+use std::collections::{BTreeMap, HashSet};
+use std::hash::{DefaultHasher, Hash, Hasher};
+use std::process::ExitCode;
+
+const SEED: u64 = 1;
+
+pub fn hash(case: &Case) -> u64 {
+    let mut hasher = DefaultHasher::new();
+    case.hash(&mut hasher);
+    hasher.finish()
+}
+
+/// What a run saw.
+#[derive(Default)]
+struct Report {
+    distinct: HashSet<u64>,
+    numbers: BTreeMap<u32, u64>,
+    by: BTreeMap<&'static str, u64>,
+    marks: Vec<u64>,
+    longest: usize,
+    faults: u64,
+}
+
+fn shown(bytes: &[u8]) -> String {
+    let cut = &bytes[..bytes.len().min(400)];
+    cut.escape_ascii().to_string()
+}
+
+fn print_case(case: &Case) {
+    println!("  start \"{}\" specifier \"{}\" room {:?} stated {:?}", shown(&case.start), shown(&case.specifier), case.room, case.stated);
+    println!("  settings {}", shown(&case.settings));
+    match lent::read_listing(&case.listing) {
+        Err(number) => println!("  listing refused as {number}: {}", shown(&case.listing)),
+        Ok(tree) => {
+            for (path, contents) in tree {
+                println!("  {} {}", shown(&path), contents.map_or("directory".into(), |c| shown(&c)));
+            }
+        }
+    }
+}
+
+fn print_left(name: &str, left: &Left) {
+    let end = left.result.iter().rposition(|&b| b != 0).map_or(0, |at| at + 1);
+    println!("  {name}: {} {:?} \"{}\"", left.number, left.lengths, shown(&left.result[..end]));
+    let count = left.numbers.first().map_or(0, |&n| n as usize);
+    if 2 + 2 * count > left.numbers.len() {
+        println!("    a count of {count} in {} list numbers", left.numbers.len());
+    } else {
+        print_list(&left.numbers[2..2 + 2 * count], &left.list);
+    }
+    println!("    work {}", if left.work.iter().all(|&b| b == 0) { "zeros" } else { "not cleared" });
+}
+
+/// Lengths, then states, and the text that the lengths cut.
+fn print_list(numbers: &[u32], text: &[u8]) {
+    let (lengths, states) = numbers.split_at(numbers.len() / 2);
+    let mut at = 0;
+    for (&length, state) in lengths.iter().zip(states) {
+        let end = at.max((at + length as usize).min(text.len()));
+        println!("    {state} {}", shown(&text[at..end]));
+        at = end;
+    }
+}
+
+impl Report {
+    fn new() -> Self {
+        Self { marks: points::no_marks(), ..Self::default() }
+    }
+
+    fn fault(&mut self, number: &str, case: &Case, words: &str) {
+        self.faults += 1;
+        if self.faults <= 20 {
+            println!("FAULT case {number}: {words}");
+            print_case(case);
+        }
+    }
+
+    /// Asks one case of everyone; false where it was seen before.
+    fn ask(&mut self, number: &str, case: &Case) -> bool {
+        if !self.distinct.insert(hash(case)) {
+            return false;
+        }
+        match expected::expected(case) {
+            Err(words) => self.fault(number, case, &words),
+            Ok(expected) => self.compare(number, case, &expected),
+        }
+        true
+    }
+
+    fn compare(&mut self, number: &str, case: &Case, expected: &Expected) {
+        let rooms = expected::rooms(expected, case.room);
+        let want = expected::left(expected, rooms);
+        let got = product::call(case.question(), rooms);
+        if case.stated.is_some_and(|stated| stated != want.number) {
+            self.fault(number, case, &format!("made to give {:?}, but {} is worked out", case.stated, want.number));
+        }
+        if got != want {
+            self.fault(number, case, "the product differs");
+            print_left("wanted", &want);
+            print_left("got   ", &got);
+        }
+        self.count(&want, expected);
+    }
+
+    fn count(&mut self, want: &Left, expected: &Expected) {
+        *self.numbers.entry(want.number).or_default() += 1;
+        let by = match expected.by {
+            _ if want.number == 20 || want.number == 21 => "a refusal of 01, worked out here",
+            By::Scope => "a refusal of 01, worked out here",
+            By::Rust => "the Rust",
+            By::Json => "RFC 8259 or 01, on JSON, against the Rust",
+            By::Walk => "the harness's own walk",
+        };
+        *self.by.entry(by).or_default() += 1;
+        self.longest = self.longest.max(expected.list.len());
+        for (sum, reached) in self.marks.iter_mut().zip(expected.marks.iter().flatten()) {
+            *sum += u64::from(*reached > 0);
+        }
+    }
+
+    fn print(&self) {
+        println!("\nnumber   cases");
+        for (number, count) in &self.numbers {
+            println!("{number:>6} {count:>7}");
+        }
+        println!("\ndecided by");
+        for (by, count) in &self.by {
+            println!("{count:>9} {by}");
+        }
+        println!("\ncases that reach each routine and branch");
+        for (words, count) in points::POINTS.iter().zip(&self.marks) {
+            println!("{count:>9} {words}");
+        }
+        println!("\n{} distinct cases, longest list {}, {} faults", self.distinct.len(), self.longest, self.faults);
+    }
+}
+
+/// What a run of a million cases must at least have seen.
+fn wanted(report: &Report, count: u64) -> bool {
+    let numbers = [(0..=7, 5_000), (20..=25, 500), (30..=32, 500), (40..=42, 500)];
+    let mut good = true;
+    for (range, least) in numbers {
+        for number in range {
+            let seen = report.numbers.get(&number).copied().unwrap_or(0);
+            if seen < least * count / 1_000_000 {
+                println!("too few cases of {number}: {seen}");
+                good = false;
+            }
+        }
+    }
+    for (words, &seen) in points::POINTS.iter().zip(&report.marks) {
+        if seen == 0 {
+            println!("not reached: {words}");
+            good = false;
+        }
+    }
+    good
+}
+
+fn compare(count: u64, seed: u64) -> bool {
+    let mut report = Report::new();
+    println!("{}", if rust::AT_HAND { "beside the Rust" } else { "the Rust is not at hand: the harness's own walk stands in its place" });
+    for (i, case) in broken::fixed().iter().enumerate() {
+        report.ask(&format!("fixed {i}"), case);
+    }
+    let mut number = 0;
+    while (report.distinct.len() as u64) < count {
+        report.ask(&number.to_string(), &cases::case(seed, number));
+        number += 1;
+    }
+    report.print();
+    wanted(&report, count) && report.faults == 0
+}
+
+fn one(number: u64, seed: u64) -> bool {
+    let case = cases::case(seed, number);
+    print_case(&case);
+    match expected::expected(&case) {
+        Err(words) => println!("  {words}"),
+        Ok(expected) => {
+            let rooms = expected::rooms(&expected, case.room);
+            print_left("wanted", &expected::left(&expected, rooms));
+            print_left("got   ", &product::call(case.question(), rooms));
+        }
+    }
+    true
+}
+
+fn run() -> Option<bool> {
+    let args: Vec<String> = std::env::args().skip(1).collect();
+    if let [mode, file] = &args[..] {
+        match mode.as_str() {
+            "vectors" => return Some(vectors::write(file, SEED)),
+            "replay" => return Some(vectors::replay(file)),
+            _ => {}
+        }
+    }
+    if let [mode, folder, node @ ..] = &args[..]
+        && mode == "real"
+    {
+        return Some(real::run(folder, node.first().map(String::as_str)));
+    }
+    let number = |at: usize, default: u64| args.get(at).map_or(Some(default), |text| text.parse().ok());
+    let seed = number(2, SEED)?;
+    Some(match args.first()?.as_str() {
+        "cases" => compare(number(1, 1_000_000)?, seed),
+        "pairs" => pairs::run(number(1, 20_000)?, seed),
+        "garbage" => garbage::run(number(1, 1_000_000)?, seed),
+        "one" => one(number(1, 0)?, seed),
+        _ => return None,
+    })
+}
+
+fn main() -> ExitCode {
+    // The Rust reads nested JSON by nested calls, however deep.
+    let thread = std::thread::Builder::new().stack_size(1 << 28).spawn(run).unwrap();
+    match thread.join().ok().flatten() {
+        Some(true) => ExitCode::SUCCESS,
+        Some(false) => ExitCode::FAILURE,
+        None => {
+            eprintln!(
+                "compare cases N [SEED] | pairs N [SEED] | garbage N [SEED] | vectors FILE | replay FILE | real FOLDER [FILE] | one NUMBER [SEED]"
+            );
+            ExitCode::FAILURE
+        }
+    }
+}

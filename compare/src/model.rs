@@ -1,0 +1,601 @@
+//! The lookup in plain steps, for what the Rust cannot tell: where a lookup meets refusals 40, 41 and 42, and which routines and
+//! branches a case reaches. It is trusted with neither alone: on every case without such a refusal its answer and list must be
+//! the Rust's own.
+//!
+//! Routines have the Rust's names. One that ends the lookup gives `Err`; one that comes back has found nothing.
+
+use crate::json::{self, Json, Member};
+use crate::lent::{CONDITIONS, EXPORTS_FIELDS, EXTENSIONS, MAIN_FIELDS, MAIN_FILES, Settings, Tree, parent};
+use crate::names::*;
+use crate::points::{Marks, Point, no_marks};
+use std::rc::Rc;
+
+/// How a lookup ends: document 01's number, and the texts of an answer.
+#[derive(Clone, PartialEq, Eq, Debug)]
+pub struct End {
+    pub number: u32,
+    pub texts: Vec<Vec<u8>>,
+}
+
+impl End {
+    fn new(number: u32, texts: &[&[u8]]) -> Self {
+        Self { number, texts: texts.iter().map(|text| text.to_vec()).collect() }
+    }
+
+    pub fn is_refusal(&self) -> bool {
+        self.number >= 20
+    }
+}
+
+pub struct Consult {
+    pub state: u8,
+    pub path: Vec<u8>,
+}
+
+pub struct Walked {
+    pub end: End,
+    pub list: Vec<Consult>,
+    pub marks: Marks,
+}
+
+pub fn lookup(tree: &Tree, settings: &Settings, start: &[u8], specifier: &[u8]) -> Walked {
+    let mut walk = Walk { tree, settings, list: Vec::new(), marks: no_marks(), read: Vec::new() };
+    let end = match walk.load_package_self_or_node_modules(start, specifier) {
+        Err(end) => end,
+        Ok(never) => match never {},
+    };
+    Walked { end, list: walk.list, marks: walk.marks }
+}
+
+/// Document 01's bound on the list's length, d + 2dW.
+pub fn formula(tree: &Tree, settings: &Settings, start: &[u8]) -> usize {
+    let d = directories(start).len();
+    let heights = tree.iter().filter(|entry| entry.1.is_none()).map(|entry| directories(entry.0).len());
+    let (h, e) = (heights.max().unwrap_or(0), settings[EXTENSIONS].len());
+    let (f, m) = (settings[MAIN_FILES].len(), settings[MAIN_FIELDS].len());
+    d + 2 * d * (6 + 2 * h + 2 * e + f * e + m * (1 + e + f * e))
+}
+
+type Look<T> = Result<T, End>;
+
+enum Never {}
+
+/// A path with the query and fragment that go with it.
+#[derive(Clone, Default)]
+struct Place {
+    path: Vec<u8>,
+    query: Vec<u8>,
+    fragment: Vec<u8>,
+}
+
+impl Place {
+    fn at(&self, path: Vec<u8>) -> Self {
+        Self { path, ..self.clone() }
+    }
+}
+
+struct Scope {
+    directory: Vec<u8>,
+    manifest: Rc<Json>,
+}
+
+/// What one target resolution does not change.
+struct Request<'a> {
+    directory: &'a [u8],
+    key: &'a [u8],
+    matched: Option<&'a [u8]>,
+}
+
+struct Walk<'a> {
+    tree: &'a Tree,
+    settings: &'a Settings,
+    list: Vec<Consult>,
+    marks: Marks,
+    /// Manifests already taken apart, by path.
+    read: Vec<(Vec<u8>, Result<Rc<Json>, u32>)>,
+}
+
+fn get<'a>(members: &'a [Member], name: &[u8]) -> Option<&'a Json> {
+    members.iter().find(|member| member.name == name).map(|member| &member.value)
+}
+
+fn field<'a>(manifest: &'a Json, name: &[u8]) -> Option<&'a Json> {
+    let Json::Object(members) = manifest else { return None };
+    get(members, name)
+}
+
+fn text_field<'a>(manifest: &'a Json, name: &[u8]) -> Option<&'a [u8]> {
+    let Some(Json::Text(text)) = field(manifest, name) else { return None };
+    Some(text)
+}
+
+impl Walk<'_> {
+    fn mark(&mut self, point: Point) {
+        self.marks[point as usize] += 1;
+    }
+
+    fn mark_if(&mut self, condition: bool, point: Point) {
+        if condition {
+            self.mark(point);
+        }
+    }
+
+    fn consult(&mut self, path: &[u8]) -> u8 {
+        let state = match self.tree.get(path) {
+            None => 0,
+            Some(None) => 1,
+            Some(Some(_)) => 2,
+        };
+        self.list.push(Consult { state, path: path.to_vec() });
+        state
+    }
+
+    fn is_file(&mut self, path: &[u8]) -> bool {
+        self.consult(path) == 2
+    }
+
+    fn is_dir(&mut self, path: &[u8]) -> bool {
+        self.consult(path) == 1
+    }
+
+    /// Refusal 42: a path over 2,048 bytes.
+    fn limited(&mut self, path: Vec<u8>) -> Look<Vec<u8>> {
+        if path.len() > 2_048 {
+            self.mark(Point::PathTooLong);
+            return Err(End::new(42, &[]));
+        }
+        Ok(path)
+    }
+
+    fn normalize_with(&mut self, base: &[u8], sub: &[u8]) -> Look<Vec<u8>> {
+        if sub.is_empty() || sub.starts_with(b"/") {
+            return self.limited(sub.to_vec());
+        }
+        let mut path = self.limited(base.to_vec())?;
+        for part in parts(sub) {
+            if part == b".." {
+                self.mark_if(path == b"/", Point::PopAtRoot);
+                path = parent(&path).to_vec();
+            } else {
+                path = self.limited(join(&path, part))?;
+            }
+        }
+        Ok(path)
+    }
+
+    fn manifest(&mut self, path: &[u8], contents: &[u8]) -> Look<Rc<Json>> {
+        let known = self.read.iter().find(|known| known.0 == path).map(|known| known.1.clone());
+        let read = known.unwrap_or_else(|| {
+            let read = json::read(contents).map(Rc::new);
+            self.read.push((path.to_vec(), read.clone()));
+            read
+        });
+        self.mark_if(contents.starts_with(&[0xEF, 0xBB, 0xBF]), Point::ManifestBom);
+        read.inspect(|json| self.mark_if(!matches!(**json, Json::Object(_)), Point::ManifestNoObject)).map_err(|number| {
+            self.mark(match number {
+                7 => Point::Fault7,
+                40 => Point::Fault40,
+                _ => Point::Fault41,
+            });
+            if number == 7 { End::new(7, &[path]) } else { End::new(number, &[]) }
+        })
+    }
+
+    fn find_package_json(&mut self, from: &[u8]) -> Look<Option<Scope>> {
+        for directory in directories(from) {
+            let path = self.limited(manifest_of(directory))?;
+            let Some(Some(contents)) = self.tree.get(&path) else {
+                self.consult(&path);
+                continue;
+            };
+            self.list.push(Consult { state: 3, path: path.clone() });
+            let manifest = self.manifest(&path, contents)?;
+            self.mark(Point::NearestFound);
+            self.mark_if(directory != from, Point::NearestAbove);
+            return Ok(Some(Scope { directory: directory.to_vec(), manifest }));
+        }
+        self.mark(Point::NearestNone);
+        Ok(None)
+    }
+
+    fn get_package_json(&mut self, directory: &[u8]) -> Look<Option<Rc<Json>>> {
+        let Some(scope) = self.find_package_json(directory)? else { return Ok(None) };
+        let own = scope.directory == directory;
+        self.mark(if own { Point::OwnKept } else { Point::OwnDropped });
+        Ok(own.then_some(scope.manifest))
+    }
+
+    fn load_package_self_or_node_modules(&mut self, start: &[u8], specifier: &[u8]) -> Look<Never> {
+        self.load_package_self(start, specifier)?;
+        self.load_node_modules(start, specifier)?;
+        if holds(specifier, b"/../..") || holds(specifier, b"../../") {
+            let mut normalized = normalize_relative(specifier);
+            if specifier.ends_with(b"/") {
+                normalized.push(b'/');
+            }
+            if package_name(&normalized) == b".." {
+                self.mark(Point::SecondWalk);
+                let walked = self.load_node_modules(start, &normalized);
+                self.mark_if(walked.as_ref().is_err_and(|end| end.number == 0), Point::SecondWalkFound);
+                walked?;
+            }
+        }
+        Err(End::new(1, &[specifier]))
+    }
+
+    fn load_package_self(&mut self, start: &[u8], specifier: &[u8]) -> Look<()> {
+        let Some(scope) = self.find_package_json(start)? else {
+            self.mark(Point::SelfNoScope);
+            return Ok(());
+        };
+        let Some(name) = text_field(&scope.manifest, b"name") else {
+            self.mark(Point::SelfNoName);
+            return Ok(());
+        };
+        let Some(subpath) = strip_package_name(specifier, name) else {
+            self.mark(Point::SelfOtherName);
+            return Ok(());
+        };
+        self.mark_if(subpath.starts_with(b"\\"), Point::SelfBackslash);
+        let Some(exports) = self.exports_field(&scope.manifest) else {
+            self.mark(Point::SelfNoExports);
+            return Ok(());
+        };
+        self.mark(Point::SelfExports);
+        match self.by_exports(specifier, &scope.directory, subpath, exports)? {}
+    }
+
+    /// The first exports field of the settings that is present.
+    fn exports_field<'b>(&mut self, manifest: &'b Json) -> Option<&'b Json> {
+        let fields = &self.settings[EXPORTS_FIELDS];
+        let place = fields.iter().position(|name| field(manifest, name).is_some())?;
+        self.mark_if(place > 0, Point::SecondExportsField);
+        field(manifest, &fields[place])
+    }
+
+    fn by_exports(&mut self, specifier: &[u8], directory: &[u8], subpath: &[u8], exports: &Json) -> Look<Never> {
+        let place = self.package_exports_resolve(directory, &dot_subpath(subpath), exports)?;
+        self.resolve_esm_match(specifier, &place)
+    }
+
+    fn load_node_modules(&mut self, start: &[u8], specifier: &[u8]) -> Look<()> {
+        for (i, directory) in directories(start).into_iter().enumerate() {
+            if !self.is_dir(directory) {
+                continue;
+            }
+            let modules = self.normalize_with(directory, b"node_modules")?;
+            if !self.is_dir(&modules) {
+                self.mark(Point::ModulesNoDirectory);
+                continue;
+            }
+            self.mark_if(i > 0, Point::ModulesSecond);
+            self.mark_if(directory.ends_with(b"/node_modules"), Point::ModulesNamed);
+            self.in_modules(specifier, &modules)?;
+        }
+        Ok(())
+    }
+
+    fn in_modules(&mut self, specifier: &[u8], modules: &[u8]) -> Look<()> {
+        let name = package_name(specifier);
+        let subpath = &specifier[name.len()..];
+        let package = self.normalize_with(modules, name)?;
+        if self.is_dir(&package) {
+            self.mark(Point::ModulesPackage);
+            self.load_package_exports(specifier, subpath, &package)?;
+        } else if !subpath.is_empty() {
+            self.mark(Point::ModulesSubpathSkipped);
+            return Ok(());
+        } else if name.starts_with(b"@") {
+            if !self.is_dir(parent(&package)) {
+                self.mark(Point::ModulesScopeSkipped);
+                return Ok(());
+            }
+            self.mark(Point::ModulesScopeThere);
+        }
+        self.in_package(specifier, name, modules)
+    }
+
+    fn in_package(&mut self, specifier: &[u8], name: &[u8], modules: &[u8]) -> Look<()> {
+        let place = Place { path: self.normalize_with(modules, specifier)?, ..Place::default() };
+        if specifier != name && !specifier.ends_with(b"/") {
+            self.load_as_file(&place)?;
+        }
+        self.mark_if(specifier.ends_with(b"/"), Point::FirstFileSkipped);
+        if self.is_dir(&place.path) {
+            return self.load_as_directory(&place);
+        }
+        self.mark(Point::FileForNoDirectory);
+        self.load_as_file(&place)
+    }
+
+    fn load_package_exports(&mut self, specifier: &[u8], subpath: &[u8], package: &[u8]) -> Look<()> {
+        let Some(manifest) = self.get_package_json(package)? else {
+            self.mark(Point::PackageNoManifest);
+            return Ok(());
+        };
+        let Some(exports) = self.exports_field(&manifest) else {
+            self.mark(Point::PackageNoExports);
+            return Ok(());
+        };
+        self.mark(Point::PackageExports);
+        match self.by_exports(specifier, package, subpath, exports)? {}
+    }
+
+    fn try_file(&mut self, place: &Place, point: Point) -> Look<()> {
+        if self.is_file(&place.path) {
+            self.mark(point);
+            return Err(End::new(0, &[&place.path, &place.query, &place.fragment]));
+        }
+        Ok(())
+    }
+
+    fn load_as_file(&mut self, place: &Place) -> Look<()> {
+        self.try_file(place, Point::FileFound)?;
+        for extension in &self.settings[EXTENSIONS] {
+            let path = self.limited([&place.path[..], extension].concat())?;
+            self.try_file(&place.at(path), Point::ExtensionFound)?;
+        }
+        Ok(())
+    }
+
+    fn load_index(&mut self, place: &Place) -> Look<()> {
+        self.mark_if(place.path == b"/", Point::IndexUnderRoot);
+        let mut point = Point::IndexFound;
+        for main_file in &self.settings[MAIN_FILES] {
+            for extension in &self.settings[EXTENSIONS] {
+                let path = self.limited([&place.path[..], b"/", main_file, extension].concat())?;
+                self.try_file(&place.at(path), point)?;
+                point = Point::IndexLater;
+            }
+        }
+        Ok(())
+    }
+
+    fn load_as_directory(&mut self, place: &Place) -> Look<()> {
+        if let Some(manifest) = self.get_package_json(&place.path)? {
+            for (i, name) in self.settings[MAIN_FIELDS].iter().enumerate() {
+                if let Some(main) = text_field(&manifest, name) {
+                    self.load_main(place, main, i)?;
+                }
+            }
+        }
+        self.load_index(place)
+    }
+
+    fn load_main(&mut self, place: &Place, main: &[u8], number: usize) -> Look<()> {
+        self.mark(Point::DirectoryMain);
+        self.mark_if(main.is_empty(), Point::DirectoryMainEmpty);
+        self.mark_if(main.starts_with(b"/"), Point::DirectoryMainAbsolute);
+        self.mark_if(parts(main).any(|part| part == b".."), Point::DirectoryMainClimbs);
+        let below = if main.is_empty() || main.starts_with(b"/") { [b"./", main].concat() } else { main.to_vec() };
+        let place = place.at(self.normalize_with(&place.path, &below)?);
+        let as_file = self.load_as_file(&place);
+        self.mark_main(&as_file, Point::DirectoryMainFound, number);
+        as_file?;
+        let index = self.load_index(&place);
+        self.mark_main(&index, Point::DirectoryMainIndex, number);
+        index
+    }
+
+    fn mark_main(&mut self, tried: &Look<()>, point: Point, number: usize) {
+        let found = tried.as_ref().is_err_and(|end| end.number == 0);
+        self.mark_if(found, point);
+        self.mark_if(found && number > 0, Point::DirectoryLaterMain);
+    }
+
+    fn resolve_esm_match(&mut self, specifier: &[u8], place: &Place) -> Look<Never> {
+        let as_file = self.load_as_file(place);
+        self.mark_if(as_file.as_ref().is_err_and(|end| end.number == 0), Point::MatchFile);
+        as_file?;
+        if self.is_dir(&place.path) {
+            self.mark(Point::MatchDirectory);
+            self.load_as_directory(place)?;
+        }
+        self.mark(Point::MatchNotFound);
+        Err(End::new(1, &[specifier]))
+    }
+
+    // ------------------------------------------------------------ exports
+
+    fn package_exports_resolve(&mut self, directory: &[u8], subpath: &[u8], exports: &Json) -> Look<Place> {
+        if let Json::Object(members) = exports {
+            let dots = members.iter().filter(|member| is_dot_key(&member.name)).count();
+            if dots > 0 && dots < members.len() {
+                self.mark(Point::ExportsMixed);
+                return Err(End::new(5, &[&manifest_of(directory)]));
+            }
+        }
+        let mut context = Place::default();
+        if subpath == b"." {
+            self.main_export(directory, exports, &mut context)?;
+        }
+        if let (true, Json::Object(members)) = (context.path.is_empty(), exports) {
+            self.package_imports_exports_resolve(directory, subpath, members, &mut context)?;
+        }
+        self.mark_if(matches!(exports, Json::Scalar), Point::ExportsScalar);
+        if context.path.is_empty() {
+            self.mark(Point::ExportsNotExported);
+            return Err(End::new(4, &[subpath, directory]));
+        }
+        Ok(context)
+    }
+
+    fn main_export(&mut self, directory: &[u8], exports: &Json, context: &mut Place) -> Look<()> {
+        let target = match exports {
+            Json::Scalar => return Ok(()),
+            Json::Text(_) | Json::Array(_) => (exports, Point::ExportsDotText),
+            Json::Object(members) => match get(members, b".") {
+                Some(target) => (target, Point::ExportsDotKey),
+                None if members.iter().any(|member| is_subpath_key(&member.name)) => return Ok(()),
+                None => (exports, Point::ExportsDotConditions),
+            },
+        };
+        self.mark(target.1);
+        let request = Request { directory, key: b".", matched: None };
+        let found = self.package_target_resolve(&request, target.0, context, 0)?;
+        self.mark_if(!found, Point::ExportsDotNothing);
+        Ok(())
+    }
+
+    fn package_imports_exports_resolve(&mut self, directory: &[u8], asked: &[u8], members: &[Member], context: &mut Place) -> Look<()> {
+        if asked.ends_with(b"/") {
+            self.mark(Point::KeySlash);
+            return Ok(());
+        }
+        self.mark_if(asked.contains(&b'*'), Point::KeyStarAsked);
+        if let Some(target) = get(members, asked).filter(|_| !asked.contains(&b'*')) {
+            self.mark(Point::KeyLiteral);
+            let request = Request { directory, key: asked, matched: None };
+            self.package_target_resolve(&request, target, context, 0)?;
+            return Ok(());
+        }
+        let Some((member, matched)) = self.best_key(asked, members) else {
+            self.mark(Point::KeyNone);
+            return Ok(());
+        };
+        self.mark_key(&member.name, matched);
+        let request = Request { directory, key: &member.name, matched: Some(matched) };
+        self.package_target_resolve(&request, &member.value, context, 0)?;
+        Ok(())
+    }
+
+    fn mark_key(&mut self, key: &[u8], matched: &[u8]) {
+        let star = key.contains(&b'*');
+        self.mark(if star { Point::KeyStar } else { Point::KeyFolder });
+        self.mark_if(star && matched.is_empty(), Point::KeyStarEmpty);
+        self.mark_if(star && !key.ends_with(b"*"), Point::KeyStarTrailer);
+    }
+
+    fn best_key<'b, 'c>(&mut self, asked: &'c [u8], members: &'b [Member]) -> Option<(&'b Member, &'c [u8])> {
+        let mut best: Option<(&Member, &[u8])> = None;
+        for member in members {
+            self.mark_if(member.name.iter().filter(|&&b| b == b'*').count() > 1, Point::KeyTwoStars);
+            self.mark_if(member.name.starts_with(b"#"), Point::KeyHash);
+            if let Some(matched) = pattern_match(asked, &member.name) {
+                let better = best.is_none_or(|(known, _)| self.comes_first(&member.name, &known.name));
+                best = if better { Some((member, matched)) } else { best };
+            }
+        }
+        best
+    }
+
+    /// Whether `pattern_key_compare` puts the new key strictly before the one known.
+    fn comes_first(&mut self, new: &[u8], known: &[u8]) -> bool {
+        let (new_base, known_base) = (base_length(new), base_length(known));
+        if new_base != known_base {
+            self.mark(Point::CompareBase);
+            return new_base > known_base;
+        }
+        if !known.contains(&b'*') || !new.contains(&b'*') {
+            self.mark(Point::CompareFolder);
+            return !known.contains(&b'*');
+        }
+        self.mark(Point::CompareLength);
+        new.len() > known.len()
+    }
+
+    /// Whether the target gives a path, which is left in the context with its query and fragment.
+    fn package_target_resolve(&mut self, request: &Request, target: &Json, context: &mut Place, depth: usize) -> Look<bool> {
+        self.mark_if(depth == 4, Point::TargetDeep);
+        match target {
+            Json::Text(text) => self.string_target(request, text, context),
+            Json::Object(members) => self.conditions(request, members, context, depth),
+            Json::Array(elements) => self.elements(request, elements, context, depth),
+            Json::Scalar => {
+                self.mark(Point::TargetScalar);
+                Ok(false)
+            }
+        }
+    }
+
+    fn conditions(&mut self, request: &Request, members: &[Member], context: &mut Place, depth: usize) -> Look<bool> {
+        for member in members {
+            if member.name == b"default" {
+                self.mark(Point::TargetDefault);
+            } else if self.settings[CONDITIONS].contains(&member.name) {
+                self.mark(Point::TargetCondition);
+            } else {
+                self.mark(Point::TargetConditionSkipped);
+                continue;
+            }
+            if self.package_target_resolve(request, &member.value, context, depth + 1)? {
+                return Ok(true);
+            }
+            self.mark(Point::TargetConditionNull);
+        }
+        Ok(false)
+    }
+
+    fn elements(&mut self, request: &Request, elements: &[Json], context: &mut Place, depth: usize) -> Look<bool> {
+        let Some((last, others)) = elements.split_last() else {
+            self.mark(Point::TargetArrayEmpty);
+            return Err(End::new(4, &[request.matched.unwrap_or(b"."), request.directory]));
+        };
+        self.mark(Point::TargetArray);
+        for element in others {
+            match self.package_target_resolve(request, element, context, depth + 1) {
+                Ok(true) => return Ok(true),
+                Ok(false) => self.mark(Point::TargetArrayNull),
+                Err(end) if end.is_refusal() => {
+                    self.mark(Point::TargetArrayRefused);
+                    return Err(end);
+                }
+                Err(_) => self.mark(Point::TargetArrayDrops),
+            }
+        }
+        self.package_target_resolve(request, last, context, depth + 1)
+    }
+
+    fn string_target(&mut self, request: &Request, text: &[u8], context: &mut Place) -> Look<bool> {
+        let Some(parsed) = parse_specifier(text) else {
+            self.mark(Point::TargetEmpty);
+            return Err(End::new(2, &[text]));
+        };
+        self.with_query_fragment(&parsed, context);
+        if !parsed.path.starts_with(b"./") {
+            self.mark(Point::TargetNoDot);
+            return Err(End::new(3, &[&parsed.path, request.key, &manifest_of(request.directory)]));
+        }
+        let target = self.normalize_string_target(request, parsed.path)?;
+        if target.len() > 2_048 {
+            self.mark(Point::TargetTooLong);
+            return Err(End::new(42, &[]));
+        }
+        if is_invalid_exports_target(&target) {
+            self.mark(Point::TargetInvalid);
+            return Err(End::new(3, &[&target, request.key, &manifest_of(request.directory)]));
+        }
+        context.path = self.normalize_with(request.directory, &target)?;
+        Ok(true)
+    }
+
+    fn with_query_fragment(&mut self, parsed: &Parsed, context: &mut Place) {
+        self.mark_if(!parsed.query.is_empty(), Point::ParseQuery);
+        self.mark_if(!parsed.fragment.is_empty(), Point::ParseFragment);
+        self.mark_if(parsed.escaped, Point::ParseEscape);
+        self.mark_if(parsed.escaped && !parsed.path.is_ascii(), Point::ParseWidened);
+        for (old, new) in [(&mut context.query, &parsed.query), (&mut context.fragment, &parsed.fragment)] {
+            self.mark_if(!old.is_empty(), if new.is_empty() { Point::ContextKept } else { Point::ContextReplaced });
+            if !new.is_empty() {
+                old.clone_from(new);
+            }
+        }
+    }
+
+    fn normalize_string_target(&mut self, request: &Request, target: Vec<u8>) -> Look<Vec<u8>> {
+        let Some(matched) = request.matched else {
+            self.mark(Point::TargetPlain);
+            return Ok(target);
+        };
+        if request.key.contains(&b'*') || target.contains(&b'*') {
+            self.mark(Point::TargetReplaced);
+            return Ok(target.split(|&b| b == b'*').collect::<Vec<_>>().join(matched));
+        }
+        if target.ends_with(b"/") {
+            self.mark(Point::TargetAppended);
+            return Ok([&target[..], matched].concat());
+        }
+        self.mark(Point::TargetDirectory);
+        Err(End::new(6, &[&manifest_of(request.directory)]))
+    }
+}
