@@ -1,0 +1,4 @@
+pub mod Spreading
+pub mod Tapes
+pub mod Endings
+pub mod Filling
