@@ -7,11 +7,13 @@ use lib.ListN.{length, take, drop, set, replicate, length-append, length-map, le
 use lib.Seq.{take-at}
 use Rattle.definition.specs.Text.{Text, zeroFrom}
 use Rattle.definition.specs.Ask.{Consult}
-use Rattle.definition.specs.Called.{padded, joined, paths, listNumbers}
+use Rattle.definition.specs.Manifest.{End, endNumber, endTexts}
+use Rattle.definition.specs.Called.{padded, joined, paths, listNumbers, written}
 use Rattle.definition.specs.WalkBounds.{AllFit}
 use Rattle.resolver.specs.Tape.{packed}
-use Rattle.lookup.specs.Meaning.{spread}
-use Rattle.lookup.specs.Walked.{packedOf, Listed}
+use Rattle.lookup.specs.declared.Answer.{Answer}
+use Rattle.lookup.specs.Meaning.{numberOf, lengthsOf, roomsOf, leftBy, spread}
+use Rattle.lookup.specs.Walked.{packedOf, Begins, Listed}
 
 -- a text with zeros behind it
 pub zero-behind : (n : ℕ) (s buffer : List ℕ) → n ≡ length s → take n buffer ≡ s → zeroFrom n buffer ≡ padded (length buffer) s
@@ -54,3 +56,19 @@ module _ (l : List Consult) where
   numbers-done k n xs ys zs a b h g f e z =
       let w : length (set (set (spread (length l) xs) 0 (length l)) 1 (length (joined (paths l)))) ≡ length xs = simp length-set (rw (← a, ← e) f) in
       z ∙ rw (e, a, b) (zero-behind (2 + 2 * length l) (listNumbers l) _ (sym (length-numbers l)) (spread-begins xs (rw a at h) g)) ∙ ap (λ m. padded m (listNumbers l)) w
+
+-- zeros in all of it
+pub zero-all : (s : List ℕ) → zeroFrom 0 s ≡ replicate (length s) 0
+unfolding zeroFrom
+zero-all s = let e : length s - 0 ≡ length s = omega arith in rw e
+
+-- a text that stands there, and zeros behind it
+pub text-done : (n : ℕ) (s buffer : List ℕ) → n ≡ length s → n ≤ length buffer → Begins s buffer → zeroFrom n buffer ≡ padded (length buffer) s
+text-done n s buffer h k b = zero-behind n s buffer h (rw h (b (rw h at k)))
+
+-- an answer with its buffers is what the definition has written
+pub filled : (a : Answer) (r n t r′ n′ t′ : List ℕ) (e : End) (l : List Consult) (w : ℕ) → (numberOf a ≡ endNumber e) × (lengthsOf a ≡ map length (endTexts e))
+    → r′ ≡ padded (length r) (joined (endTexts e)) → n′ ≡ padded (length n) (listNumbers l) → t′ ≡ padded (length t) (joined (paths l))
+    → leftBy a r′ n′ t′ (replicate w 0) ≡ written (roomsOf r n t w) e l
+unfolding written
+filled a r n t r′ n′ t′ e l w h x y z = rw (h .0, h .1, x, y, z)

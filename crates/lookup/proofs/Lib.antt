@@ -2,3 +2,5 @@ pub mod Spreading
 pub mod Tapes
 pub mod Endings
 pub mod Filling
+pub mod Delivering
+pub mod Checking

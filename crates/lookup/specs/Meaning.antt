@@ -35,8 +35,11 @@ abbrev pub questionOf : List ℕ → List ℕ → List ℕ → List ℕ → Ques
 questionOf listing settings start specifier = record { listing = listing; settings = settings; start = start; specifier = specifier }
 
 -- the lent buffers' lengths
+abbrev pub roomsBy : ℕ → ℕ → ℕ → ℕ → Rooms
+roomsBy result numbers list work = record { result = result; numbers = numbers; list = list; work = work }
+
 abbrev pub roomsOf : List ℕ → List ℕ → List ℕ → ℕ → Rooms
-roomsOf result numbers list work = record { result = length result; numbers = length numbers; list = length list; work = work }
+roomsOf result numbers list work = roomsBy (length result) (length numbers) (length list) work
 
 -- an answer, with what stands in the lent buffers
 abbrev pub leftBy : Answer → List ℕ → List ℕ → List ℕ → List ℕ → Left
