@@ -4,3 +4,4 @@ pub mod Endings
 pub mod Filling
 pub mod Delivering
 pub mod Checking
+pub mod Walking

@@ -169,7 +169,13 @@ fn check_room(ending: Ending, mark: Mark, result: usize, nums: usize, text: usiz
 }
 
 // Behind the lookup: a refusal, or the answer.
-fn deliver(ending: Ending, mark: Mark, result: &mut [u8], nums: &mut [u32], text: &mut [u8]) -> Answer
+fn deliver(
+    ending: Ending,
+    mark: Mark,
+    result: &mut [u8],
+    nums: &mut [u32],
+    text: &mut [u8],
+) -> Answer
     requires { ⌜ Small ending mark ⌝ }
     ensures { λ r. ⌜ ((e : End) (l : List Consult) (w : ℕ) → Walked e l ending mark (now (result .entry)) (now (nums .entry)) (now (text .entry)) → leftBy r (now (result .exit)) (now (nums .exit)) (now (text .exit)) (replicate w 0) ≡ delivered (roomsOf (now (result .entry)) (now (nums .entry)) (now (text .entry)) w) e l) ⌝ }
 {
@@ -221,7 +227,14 @@ fn resolve(
         Checked::Refused(n) => refuse(n, result, nums, text),
         Checked::Accepted => {
             let finished = resolver::load_package_self_or_node_modules(
-                listing, settings, start, specifier, result, nums, text, work,
+                listing,
+                settings,
+                start,
+                specifier,
+                result,
+                nums,
+                text,
+                work,
             );
             deliver(finished.ending, finished.mark, result, nums, text)
         }
@@ -242,7 +255,14 @@ pub fn lookup(
     ensures { λ r. ⌜ leftBy r (now (result .exit)) (now («list_numbers» .exit)) (now («list_text» .exit)) (now (work .exit)) ≡ called (questionOf (now (listing .entry)) (now (settings .entry)) (now (start .entry)) (now (specifier .entry))) (roomsOf (now (result .entry)) (now («list_numbers» .entry)) (now («list_text» .entry)) (length (now (work .entry)))) ⌝ }
 {
     let answer = resolve(
-        listing, settings, start, specifier, result, list_numbers, list_text, work,
+        listing,
+        settings,
+        start,
+        specifier,
+        result,
+        list_numbers,
+        list_text,
+        work,
     );
     text::zero_from(work, 0);
     answer

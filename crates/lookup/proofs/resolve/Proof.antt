@@ -1,3 +1,9 @@
+use mathlib.Core.Path.{refl}
+use native.Mathlib.Omega.{arith}
+use lib.ListN.{length}
+use Rattle.lookup.specs.Meaning.{questionOf, roomsOf}
+use Rattle.lookup.proofs.Delivering.{when-refused, when-accepted}
+use Rattle.lookup.proofs.Walking.{small, walked, same-rooms, called-by, passed-by}
 use borrow.Author.Needs.{needs}
 use Rattle.lookup.proofs.resolve.Statement.{statement}
 use Rattle.lookup.proofs.resolve.Tie as tie
@@ -8,82 +14,47 @@ use Rattle.lookup.proofs.deliver.Reads as deliver-reads
 use Rattle.lookup.proofs.refuse.Reads as refuse-reads
 use Rattle.resolver.proofs.load_package_self_or_node_modules.Reads as load-package-self-or-node-modules-reads
 
--- src/lib.rt:219:9
-check-requires : tie.Need-check-requires
-check-requires c κs = search needs
-
--- src/lib.rt:221:26
-enum-known-checked : tie.Need-enum-known-checked
-enum-known-checked c = search needs
-
--- src/lib.rt:221:32
-refuse-requires : tie.Need-refuse-requires
-refuse-requires c κs = search needs
-
--- src/lib.rt:224:54
-enum-told : tie.Need-enum-told
-enum-told c = search needs
-
--- src/lib.rt:223:17
-load-package-self-or-node-modules-requires : tie.Need-load-package-self-or-node-modules-requires
-load-package-self-or-node-modules-requires c κs = search needs
-
--- src/lib.rt:226:13
-deliver-requires : tie.Need-deliver-requires
-deliver-requires c κs = ?
-
--- src/lib.rt:207:1
-same-length : tie.Need-same-length
-same-length c = search needs
-
--- src/lib.rt:207:1
-same-length-2 : tie.Need-same-length-2
-same-length-2 c = search needs
-
--- src/lib.rt:207:1
-same-length-3 : tie.Need-same-length-3
-same-length-3 c = search needs
-
--- src/lib.rt:207:1
-returns : tie.Need-returns
-returns c = ?
-
--- src/lib.rt:207:1
-same-length-4 : tie.Need-same-length-4
-same-length-4 c = search needs
-
--- src/lib.rt:207:1
-same-length-5 : tie.Need-same-length-5
-same-length-5 c = search needs
-
--- src/lib.rt:207:1
-same-length-6 : tie.Need-same-length-6
-same-length-6 c = search needs
-
--- src/lib.rt:207:1
-same-length-7 : tie.Need-same-length-7
-same-length-7 c = search needs
-
--- src/lib.rt:207:1
-returns-2 : tie.Need-returns-2
-returns-2 c = ?
-
 pub resolve-spec : {M : Type 1} → statement M
 resolve-spec =
     tie.close
     (tie.spec
-    check-requires
-    enum-known-checked
-    refuse-requires
-    enum-told
-    load-package-self-or-node-modules-requires
-    deliver-requires
-    same-length
-    same-length-2
-    same-length-3
-    returns
-    same-length-4
-    same-length-5
-    same-length-6
-    same-length-7
-    returns-2)
+    (λ c κs. search needs)
+    (λ c. search needs)
+    (λ c κs. search needs)
+    (λ c. search needs)
+    (λ c κs. search needs)
+    (λ c κs.
+    let a = c .before .before .before .before .before .before .before .before .before .before .before .before .before .before .before .before .before .before .before .before .before .before .before .before .before .before .before .args in
+    let q = questionOf (a .listing .now) (a .settings .now) (a .start .now) (a .specifier .now) in
+    let m = roomsOf (a .result .now) (a .nums .now) (a .text .now) (length (a .work .now)) in
+    let o = c .before .before .before .before .before .before .before .before .before .before .before .before .before .before .before .before .before .before .check in
+    let p = passed-by q m (o .result) (o .ensures m refl) (c .before .before .before .before .before .before .before .before .before .before .before .before .before .before .before .before .enum-told .given .1) in
+    let d = c .before .before .before .before .before .before .before .before .before .before .before .load-package-self-or-node-modules in
+    let k = d .kept .1 .1 .1 .1 in
+    let done = d .ensures (let h = p .work in omega arith) (p .specifier) in
+    small q m p _ _ _ _ _ _ _ _ (k .0) (k .1 .0) (k .1 .1 .0) done)
+    (λ c. search needs)
+    (λ c. search needs)
+    (λ c. search needs)
+    (λ c.
+    let a = c .before .before .before .before .before .before .before .before .before .before .before .before .before .before .before .before .before .before .before .before .before .before .args in
+    let q = questionOf (a .listing .now) (a .settings .now) (a .start .now) (a .specifier .now) in
+    let m = roomsOf (a .result .now) (a .nums .now) (a .text .now) (length (a .work .now)) in
+    let o = c .before .before .before .before .before .before .before .before .before .before .before .before .before .check in
+    when-refused m (o .result) _ _ _ (called-by q m (o .result) (o .ensures m refl)) _ (c .before .before .before .before .before .before .before .before .before .before .before .checked .given .1) (c .before .before .before .before .before .before .refuse .ensures _))
+    (λ c. search needs)
+    (λ c. search needs)
+    (λ c. search needs)
+    (λ c. search needs)
+    (λ c.
+    let a = c .before .before .before .before .before .before .before .before .before .before .before .before .before .before .before .before .before .before .before .before .before .before .before .before .before .before .before .before .before .before .before .before .before .before .args in
+    let q = questionOf (a .listing .now) (a .settings .now) (a .start .now) (a .specifier .now) in
+    let m = roomsOf (a .result .now) (a .nums .now) (a .text .now) (length (a .work .now)) in
+    let o = c .before .before .before .before .before .before .before .before .before .before .before .before .before .before .before .before .before .before .before .before .before .before .before .before .before .check in
+    let p = passed-by q m (o .result) (o .ensures m refl) (c .before .before .before .before .before .before .before .before .before .before .before .before .before .before .before .before .before .before .before .before .before .before .before .enum-told .given .1) in
+    let d = c .before .before .before .before .before .before .before .before .before .before .before .before .before .before .before .before .before .before .load-package-self-or-node-modules in
+    let k = d .kept .1 .1 .1 .1 in
+    let done = d .ensures (let h = p .work in omega arith) (p .specifier) in
+    when-accepted m (o .result) _ _ _ (called-by q m (o .result) (o .ensures m refl)) (c .before .before .before .before .before .before .before .before .before .before .before .before .before .before .before .before .before .before .before .before .before .before .before .enum-told .given .1)
+    (same-rooms q m p _ _ _ _ _ _ _ _ (k .0) (k .1 .0) (k .1 .1 .0) done _ _
+    (c .before .before .before .before .before .before .deliver .ensures _ _ _ (walked q m p _ _ _ _ _ _ _ _ (k .0) (k .1 .0) (k .1 .1 .0) done)))))
