@@ -5,3 +5,4 @@ pub mod Filling
 pub mod Delivering
 pub mod Checking
 pub mod Walking
+pub mod Lengths

@@ -50,7 +50,7 @@ specifier-short s h =
     let b = and-true (isBare s && leb (length s) 512) (not (contains 0 s)) (a .0) in
     leb-true (length s) 512 (and-true (isBare s) (leb (length s) 512) (b .0) .1)
 
-all-passed : (q : Question) (m : Rooms) → none ≡ refusalOf q m → Passed q m
+pub all-passed : (q : Question) (m : Rooms) → none ≡ refusalOf q m → Passed q m
 unfolding refusalOf accepted
 all-passed q m h =
     let a = passed (leb 32768 (m .work)) 25 _ (sym h) in

@@ -52,6 +52,21 @@ leftBy a result numbers list work = record {
   work = work;
 }
 
+-- a number and three lengths, with what stands in the lent buffers
+abbrev pub exported : ℕ → List ℕ → List ℕ → List ℕ → List ℕ → List ℕ → Left
+exported number lengths result numbers list work = record {
+  number = number;
+  lengths = lengths;
+  result = result;
+  numbers = numbers;
+  list = list;
+  work = work;
+}
+
+-- a call with three lengths: 0 where there is no text
+abbrev pub inThree : Left → Left
+inThree l = exported (l .number) (padded 3 (l .lengths)) (l .result) (l .numbers) (l .list) (l .work)
+
 -- the checks before the lookup and behind it
 abbrev pub refusalBy : Checked → Option ℕ
 refusalBy InListing.Accepted = none

@@ -3,14 +3,14 @@ use listing::Checked;
 use resolver::Ending;
 use resolver::Mark;
 ghost use mathlib.Core.Path.{_≡_};
-ghost use mathlib.Core.List.{List, map};
+ghost use mathlib.Core.List.{List, [], _∷_, map};
 ghost use Prim.Native.Nat.{ℕ, _+_, _*_, _≤_};
 ghost use lib.ListN.{length, replicate};
 ghost use Rattle.definition.specs.Ask.{Consult};
 ghost use Rattle.definition.specs.Manifest.{End, endNumber, endTexts};
 ghost use Rattle.definition.specs.Called.{Rooms, joined, paths, padded, listNumbers, zeros, written, delivered, unlessRefused, refusalOf, called};
 ghost use Rattle.resolver.specs.Tape.{endingOf};
-ghost use Rattle.lookup.specs.Meaning.{numberOf, lengthsOf, questionOf, roomsBy, roomsOf, leftBy, refusalBy, spread};
+ghost use Rattle.lookup.specs.Meaning.{numberOf, lengthsOf, questionOf, roomsBy, roomsOf, leftBy, exported, inThree, refusalBy, spread};
 ghost use Rattle.lookup.specs.Walked.{numbersLength, Small, Counted, Listed, Walked, Room};
 
 // How a call ends: document 01's cases, with the length of each text in the result text, or the number of a refusal.
@@ -266,4 +266,75 @@ pub fn lookup(
     );
     text::zero_from(work, 0);
     answer
+}
+
+fn ending(number: u8, first: usize, second: usize, third: usize) -> Ending
+    ensures { λ r. ⌜ r ≡ record { number = number; first = first; second = second; third = third } ⌝ }
+{
+    Ending {
+        number,
+        first,
+        second,
+        third,
+    }
+}
+
+// An answer's number, and three lengths: 0 where there is no text.
+fn ending_of(answer: Answer) -> Ending
+    ensures number { λ r. ⌜ r .number ≡ numberOf answer ⌝ }
+    ensures lengths { λ r. ⌜ r .first ∷ r .second ∷ r .third ∷ [] ≡ padded 3 (lengthsOf answer) ⌝ }
+{
+    match answer {
+        Answer::Found {
+            path,
+            query,
+            fragment,
+        } => ending(0, path, query, fragment),
+        Answer::NotFound { specifier } => ending(1, specifier, 0, 0),
+        Answer::Empty { target } => ending(2, target, 0, 0),
+        Answer::InvalidPackageTarget {
+            target,
+            key,
+            manifest,
+        } => ending(3, target, key, manifest),
+        Answer::PackagePathNotExported { subpath, package } => ending(4, subpath, package, 0),
+        Answer::InvalidPackageConfig { manifest } => ending(5, manifest, 0, 0),
+        Answer::InvalidPackageConfigDirectory { manifest } => ending(6, manifest, 0, 0),
+        Answer::Json { manifest } => ending(7, manifest, 0, 0),
+        Answer::Refused(number) => ending(number, 0, 0, 0),
+    }
+}
+
+// The lookup for other languages: document 01's number, and the lengths of the texts, 0 where there is none.
+#[no_mangle]
+pub extern "C" fn hannuvozh_lookup(
+    listing: &[u8],
+    settings: &[u8],
+    start: &[u8],
+    specifier: &[u8],
+    result: &mut [u8],
+    list_numbers: &mut [u32],
+    list_text: &mut [u8],
+    work: &mut [u8],
+    lengths: &mut [u32; 3],
+) -> u32
+    ensures { λ r. ⌜ exported r (now (lengths .exit)) (now (result .exit)) (now («list_numbers» .exit)) (now («list_text» .exit)) (now (work .exit)) ≡ inThree (called (questionOf (now (listing .entry)) (now (settings .entry)) (now (start .entry)) (now (specifier .entry))) (roomsOf (now (result .entry)) (now («list_numbers» .entry)) (now («list_text» .entry)) (length (now (work .entry))))) ⌝ }
+{
+    let answer = lookup(
+        listing,
+        settings,
+        start,
+        specifier,
+        result,
+        list_numbers,
+        list_text,
+        work,
+    );
+    let ending = ending_of(answer);
+    *lengths = [
+        ending.first as u32,
+        ending.second as u32,
+        ending.third as u32,
+    ];
+    ending.number as u32
 }
