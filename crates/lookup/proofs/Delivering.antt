@@ -1,13 +1,12 @@
 -- What stands behind the lookup, test by test: its own refusal, 20, 21, or the answer.
 use mathlib.Core.Path.{_≡_, refl, sym, _∙_, ap}
-use mathlib.Core.Bool.{Bool, true, false, not, _||_, or-true}
+use mathlib.Core.Bool.{true, false, or-true}
 use mathlib.Core.List.{List}
-use Prim.Native.Nat.{ℕ, _+_, _≤_, _<_}
+use Prim.Native.Nat.{ℕ, _≤_, _<_}
 use native.Mathlib.Omega.{arith}
 use borrow.Author.Tests.{lt-ltb, le-ltb}
 use lib.Dec.{ltb}
 use lib.ListN.{length}
-use Rattle.definition.specs.Text.{if_then_else_}
 use Rattle.definition.specs.Exports.{failureNumber, NotFound, Empty, InvalidPackageTarget, PackagePathNotExported, InvalidPackageConfig, InvalidPackageConfigDirectory, JsonError}
 use Rattle.definition.specs.Ask.{Consult}
 use Rattle.definition.specs.Manifest.{manifestBeyond, nameTwice, pathTooLong, refusalNumber, failed, refused, End, found, stopped, endNumber, endTexts, isAnswer}
@@ -18,7 +17,7 @@ use Rattle.resolver.specs.declared.Mark.{Mark}
 use Rattle.listing.specs.declared.Checked.{Checked}
 use Rattle.listing.specs.declared.Checked.the-variants.{Accepted, Refused}
 use Rattle.lookup.specs.Meaning.{refusalBy}
-use Rattle.lookup.specs.Walked.{textLength, numbersLength, Counted, Room}
+use Rattle.lookup.specs.Walked.{textLength, numbersLength, Counted}
 use Rattle.lookup.proofs.Endings.{length-of}
 use Rattle.lookup.proofs.Filling.{length-numbers}
 

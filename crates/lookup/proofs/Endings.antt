@@ -1,14 +1,13 @@
 -- How a lookup ended, by its number.
-use mathlib.Core.Path.{_≡_, refl, sym, _∙_, ap}
-use mathlib.Core.Bool.{Bool, true, false}
-use mathlib.Core.List.{List, [], _∷_, _++_, map}
-use Prim.Native.Nat.{ℕ, _+_, _≤_, _<_}
+use mathlib.Core.Path.{_≡_, refl}
+use mathlib.Core.List.{[], _++_, map}
+use Prim.Native.Nat.{_+_}
 use native.Mathlib.Omega.{arith}
 use lib.Dec.{eqb}
 use lib.ListN.{length, length-append}
 use Rattle.definition.specs.Text.{Text, if_then_else_}
 use Rattle.definition.specs.Exports.{failureNumber, failureTexts, NotFound, Empty, InvalidPackageTarget, PackagePathNotExported, InvalidPackageConfig, InvalidPackageConfigDirectory, JsonError}
-use Rattle.definition.specs.Manifest.{manifestBeyond, nameTwice, pathTooLong, refusalNumber, failed, refused, End, found, stopped, endNumber, endTexts, isAnswer}
+use Rattle.definition.specs.Manifest.{manifestBeyond, nameTwice, pathTooLong, refusalNumber, failed, refused, End, found, stopped, endNumber, endTexts}
 use Rattle.definition.specs.Called.{joined}
 use Rattle.resolver.specs.Tape.{endingOf}
 use Rattle.resolver.specs.declared.Ending.{Ending}

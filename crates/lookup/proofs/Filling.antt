@@ -1,11 +1,11 @@
 -- The buffers of an answer: texts and list numbers, and zeros behind them.
 use mathlib.Core.Path.{_≡_, refl, sym, _∙_, ap}
-use mathlib.Core.List.{List, [], _∷_, _++_, map, append-assoc}
-use Prim.Native.Nat.{ℕ, suc, _+_, _*_, _-_, _/_, _%_, _≤_, _<_}
+use mathlib.Core.List.{List, [], _∷_, map, append-assoc}
+use Prim.Native.Nat.{ℕ, _+_, _*_, _-_, _/_, _%_, _≤_}
 use native.Mathlib.Omega.{arith}
 use lib.ListN.{length, take, drop, set, replicate, length-append, length-map, length-set}
 use lib.Seq.{take-at}
-use Rattle.definition.specs.Text.{Text, zeroFrom}
+use Rattle.definition.specs.Text.{zeroFrom}
 use Rattle.definition.specs.Ask.{Consult}
 use Rattle.definition.specs.Manifest.{End, endNumber, endTexts}
 use Rattle.definition.specs.Called.{padded, joined, paths, listNumbers, written}

@@ -1,18 +1,18 @@
 -- What a lookup leaves on the tape: its list, its texts and its counts, as far as the buffers reach.
-use mathlib.Core.Path.{_≡_, refl, sym, _∙_, ap}
+use mathlib.Core.Path.{_≡_, refl, sym, _∙_}
 use mathlib.Core.Bool.{Bool, true, false}
-use mathlib.Core.List.{List, [], _∷_, _++_, map}
-use Prim.Native.Nat.{ℕ, suc, _+_, _*_, _/_, _%_, _≤_, _<_, min}
+use mathlib.Core.List.{List, [], _∷_, map}
+use Prim.Native.Nat.{ℕ, suc, _+_, _≤_}
 use native.Mathlib.Omega.{arith}
 use borrow.Author.Tests.{ltb-true, ltb-false}
 use lib.Dec.{ltb}
-use lib.ListN.{length, take, drop, set, length-append}
+use lib.ListN.{length, set, length-append}
 use lib.Seq.{set-out}
-use Rattle.definition.specs.Text.{Text, overwrite}
+use Rattle.definition.specs.Text.{overwrite}
 use Rattle.definition.specs.TextSteps.{overwrite-here, overwrite-nil, overwrite-past}
 use Rattle.definition.specs.Ask.{Consult}
 use Rattle.definition.specs.Called.{joined, paths}
-use Rattle.resolver.specs.Tape.{Tape, most, packed, put, written}
+use Rattle.resolver.specs.Tape.{Tape, most, put, written}
 use Rattle.resolver.proofs.Laws.{overwrite-append}
 use Rattle.lookup.specs.Walked.{packedOf}
 

@@ -2,8 +2,6 @@ use borrow.Author.Tests.{ne-eqb}
 use Rattle.lookup.proofs.Endings.{case-of}
 use Rattle.lookup.proofs.answer_of.Statement.{statement}
 use Rattle.lookup.proofs.answer_of.Tie as tie
-use Rattle.lookup.proofs.answer_of.Reads as reads
-use Rattle.lookup.proofs.answer_of.Lts as lts
 
 pub answer-of-spec : {M : Type 1} → statement M
 answer-of-spec =

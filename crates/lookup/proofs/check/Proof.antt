@@ -6,12 +6,6 @@ use Rattle.lookup.proofs.Checking.{by-work, by-settings, by-listing, by
 use borrow.Author.Needs.{needs}
 use Rattle.lookup.proofs.check.Statement.{statement}
 use Rattle.lookup.proofs.check.Tie as tie
-use Rattle.lookup.proofs.check.Reads as reads
-use Rattle.lookup.proofs.check.Lts as lts
-use Rattle.listing.proofs.check.Reads as check-reads
-use Rattle.listing.proofs.is_directory.Reads as is-directory-reads
-use Rattle.settings.proofs.check.Reads as check-reads′
-use Rattle.specifier.proofs.check.Reads as check-reads′′
 
 pub check-spec : {M : Type 1} → statement M
 check-spec =

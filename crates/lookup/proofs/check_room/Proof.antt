@@ -7,8 +7,6 @@ use Rattle.lookup.proofs.Delivering.{own, short-result, short-numbers, 
 use borrow.Author.Needs.{needs}
 use Rattle.lookup.proofs.check_room.Statement.{statement}
 use Rattle.lookup.proofs.check_room.Tie as tie
-use Rattle.lookup.proofs.check_room.Reads as reads
-use Rattle.lookup.proofs.check_room.Lts as lts
 
 pub check-room-spec : {M : Type 1} → statement M
 unfolding unlessRefused

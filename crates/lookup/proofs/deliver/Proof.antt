@@ -2,11 +2,6 @@ use borrow.Author.Needs.{needs}
 use Rattle.lookup.proofs.Delivering.{when-refused, when-accepted}
 use Rattle.lookup.proofs.deliver.Statement.{statement}
 use Rattle.lookup.proofs.deliver.Tie as tie
-use Rattle.lookup.proofs.deliver.Reads as reads
-use Rattle.lookup.proofs.deliver.Lts as lts
-use Rattle.lookup.proofs.check_room.Reads as check-room-reads
-use Rattle.lookup.proofs.fill.Reads as fill-reads
-use Rattle.lookup.proofs.refuse.Reads as refuse-reads
 
 pub deliver-spec : {M : Type 1} → statement M
 deliver-spec =

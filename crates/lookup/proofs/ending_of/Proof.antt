@@ -3,9 +3,6 @@ use Rattle.definition.specs.Called.{padded}
 use borrow.Author.Needs.{needs}
 use Rattle.lookup.proofs.ending_of.Statement.{statement}
 use Rattle.lookup.proofs.ending_of.Tie as tie
-use Rattle.lookup.proofs.ending_of.Reads as reads
-use Rattle.lookup.proofs.ending_of.Lts as lts
-use Rattle.lookup.proofs.ending.Reads as ending-reads
 
 pub ending-of-spec : {M : Type 1} → statement M
 unfolding padded

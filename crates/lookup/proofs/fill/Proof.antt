@@ -4,11 +4,6 @@ use Rattle.lookup.proofs.Endings.{length-of}
 use Rattle.lookup.proofs.Filling.{text-done, filled}
 use Rattle.lookup.proofs.fill.Statement.{statement}
 use Rattle.lookup.proofs.fill.Tie as tie
-use Rattle.lookup.proofs.fill.Reads as reads
-use Rattle.lookup.proofs.fill.Lts as lts
-use Rattle.lookup.proofs.answer_of.Reads as answer-of-reads
-use Rattle.lookup.proofs.finish_numbers.Reads as finish-numbers-reads
-use Rattle.text.proofs.zero_from.Reads as zero-from-reads
 
 pub fill-spec : {M : Type 1} → statement M
 fill-spec =

@@ -5,10 +5,6 @@ use borrow.Author.Needs.{needs}
 use Rattle.lookup.proofs.Filling.{numbers-done}
 use Rattle.lookup.proofs.finish_numbers.Statement.{statement}
 use Rattle.lookup.proofs.finish_numbers.Tie as tie
-use Rattle.lookup.proofs.finish_numbers.Reads as reads
-use Rattle.lookup.proofs.finish_numbers.Lts as lts
-use Rattle.lookup.proofs.spread.Reads as spread-reads
-use Rattle.text.proofs.zero_from_u32.Reads as zero-from-u32-reads
 
 pub finish-numbers-spec : {M : Type 1} → statement M
 finish-numbers-spec =

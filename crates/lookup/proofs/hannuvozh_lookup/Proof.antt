@@ -3,10 +3,6 @@ use Rattle.lookup.proofs.Lengths.{three-short, three-left}
 use borrow.Author.Needs.{needs}
 use Rattle.lookup.proofs.hannuvozh_lookup.Statement.{statement}
 use Rattle.lookup.proofs.hannuvozh_lookup.Tie as tie
-use Rattle.lookup.proofs.hannuvozh_lookup.Reads as reads
-use Rattle.lookup.proofs.hannuvozh_lookup.Lts as lts
-use Rattle.lookup.proofs.ending_of.Reads as ending-of-reads
-use Rattle.lookup.proofs.lookup.Reads as lookup-reads
 
 pub hannuvozh-lookup-spec : {M : Type 1} → statement M
 hannuvozh-lookup-spec =

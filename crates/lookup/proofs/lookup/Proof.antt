@@ -2,10 +2,6 @@ use Rattle.lookup.proofs.Filling.{zero-all}
 use borrow.Author.Needs.{needs}
 use Rattle.lookup.proofs.lookup.Statement.{statement}
 use Rattle.lookup.proofs.lookup.Tie as tie
-use Rattle.lookup.proofs.lookup.Reads as reads
-use Rattle.lookup.proofs.lookup.Lts as lts
-use Rattle.lookup.proofs.resolve.Reads as resolve-reads
-use Rattle.text.proofs.zero_from.Reads as zero-from-reads
 
 pub lookup-spec : {M : Type 1} → statement M
 lookup-spec =

@@ -3,10 +3,6 @@ use Rattle.definition.specs.Called.{zeros}
 use Rattle.lookup.proofs.Filling.{zero-all}
 use Rattle.lookup.proofs.refuse.Statement.{statement}
 use Rattle.lookup.proofs.refuse.Tie as tie
-use Rattle.lookup.proofs.refuse.Reads as reads
-use Rattle.lookup.proofs.refuse.Lts as lts
-use Rattle.text.proofs.zero_from.Reads as zero-from-reads
-use Rattle.text.proofs.zero_from_u32.Reads as zero-from-u32-reads
 
 pub refuse-spec : {M : Type 1} → statement M
 unfolding zeros

@@ -7,12 +7,6 @@ use Rattle.lookup.proofs.Walking.{small, walked, same-rooms, called-by,
 use borrow.Author.Needs.{needs}
 use Rattle.lookup.proofs.resolve.Statement.{statement}
 use Rattle.lookup.proofs.resolve.Tie as tie
-use Rattle.lookup.proofs.resolve.Reads as reads
-use Rattle.lookup.proofs.resolve.Lts as lts
-use Rattle.lookup.proofs.check.Reads as check-reads
-use Rattle.lookup.proofs.deliver.Reads as deliver-reads
-use Rattle.lookup.proofs.refuse.Reads as refuse-reads
-use Rattle.resolver.proofs.load_package_self_or_node_modules.Reads as load-package-self-or-node-modules-reads
 
 pub resolve-spec : {M : Type 1} → statement M
 resolve-spec =

@@ -7,8 +7,6 @@ use borrow.Author.Needs.{needs}
 use Rattle.lookup.proofs.Spreading.{spreadTo, spread-start, spread-end, packedAt, spread-here, spread-step}
 use Rattle.lookup.proofs.spread.Statement.{statement}
 use Rattle.lookup.proofs.spread.Tie as tie
-use Rattle.lookup.proofs.spread.Reads as reads
-use Rattle.lookup.proofs.spread.Lts as lts
 
 abbrev Inv-loop : tie.InvT-loop
 Inv-loop nums₀ count i₀ nums i = (i ≤ count) × (length nums ≡ length nums₀) × (nums ≡ spreadTo i count nums₀)
