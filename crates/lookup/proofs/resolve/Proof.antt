@@ -25,7 +25,7 @@ resolve-spec =
     let p = passed-by q m (o .result) (o .ensures m refl) (c .before .before .before .before .before .before .before .before .before .before .before .before .before .before .before .before .enum-told .given .1) in
     let d = c .before .before .before .before .before .before .before .before .before .before .before .load-package-self-or-node-modules in
     let k = d .kept .1 .1 .1 .1 in
-    let done = d .ensures (let h = p .work in omega arith) (p .specifier) in
+    let done = d .ensures .0 (let h = p .work in omega arith) (p .specifier) in
     small q m p _ _ _ _ _ _ _ _ (k .0) (k .1 .0) (k .1 .1 .0) done)
     (λ c. search needs)
     (λ c. search needs)
@@ -48,7 +48,7 @@ resolve-spec =
     let p = passed-by q m (o .result) (o .ensures m refl) (c .before .before .before .before .before .before .before .before .before .before .before .before .before .before .before .before .before .before .before .before .before .before .before .enum-told .given .1) in
     let d = c .before .before .before .before .before .before .before .before .before .before .before .before .before .before .before .before .before .before .load-package-self-or-node-modules in
     let k = d .kept .1 .1 .1 .1 in
-    let done = d .ensures (let h = p .work in omega arith) (p .specifier) in
+    let done = d .ensures .0 (let h = p .work in omega arith) (p .specifier) in
     when-accepted m (o .result) _ _ _ (called-by q m (o .result) (o .ensures m refl)) (c .before .before .before .before .before .before .before .before .before .before .before .before .before .before .before .before .before .before .before .before .before .before .before .enum-told .given .1)
     (same-rooms q m p _ _ _ _ _ _ _ _ (k .0) (k .1 .0) (k .1 .1 .0) done _ _
     (c .before .before .before .before .before .before .deliver .ensures _ _ _ (walked q m p _ _ _ _ _ _ _ _ (k .0) (k .1 .0) (k .1 .1 .0) done)))))
