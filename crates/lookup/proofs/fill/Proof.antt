@@ -1,0 +1,28 @@
+use borrow.Author.Needs.{needs}
+use mathlib.Core.Path.{_∙_}
+use Rattle.lookup.proofs.Endings.{length-of}
+use Rattle.lookup.proofs.Filling.{text-done, filled}
+use Rattle.lookup.proofs.fill.Statement.{statement}
+use Rattle.lookup.proofs.fill.Tie as tie
+
+pub fill-spec : {M : Type 1} → statement M
+fill-spec =
+    tie.close
+    (tie.spec
+    (λ c. search needs)
+    (λ c. search needs)
+    (λ c κs. search needs)
+    (λ c κs. search needs)
+    (λ c κs. search needs)
+    (λ c κs. search needs)
+    (λ c. search needs)
+    (λ c. search needs)
+    (λ c. search needs)
+    (λ c e l w g.
+    let k = g .counted in
+    let room = c .before .before .before .before .before .before .before .before .before .before .before .before .before .before .before .before .before .before .pre .1 in
+    let a = c .before .before .before .before .before .before .before .before .before .before .before .before .before .before .before .before .before .before .args in
+    filled (c .answer-of .result) (a .result .now) (a .nums .now) (a .text .now) _ _ _ e l w (c .answer-of .ensures e (k .ending))
+    (c .before .before .before .before .before .before .before .before .before .before .before .zero-from .ensures ∙ text-done _ _ _ (length-of _ e (k .ending)) (room .result) (g .result))
+    (c .before .before .before .before .before .before .before .finish-numbers .ensures l (k .count) (k .size) (g .numbers))
+    (c .before .before .before .zero-from2 .ensures ∙ text-done _ _ _ (k .size) (room .list) (g .list))))

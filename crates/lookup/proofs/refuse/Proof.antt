@@ -1,0 +1,18 @@
+use borrow.Author.Needs.{needs}
+use Rattle.definition.specs.Called.{zeros}
+use Rattle.lookup.proofs.Filling.{zero-all}
+use Rattle.lookup.proofs.refuse.Statement.{statement}
+use Rattle.lookup.proofs.refuse.Tie as tie
+
+pub refuse-spec : {M : Type 1} → statement M
+unfolding zeros
+refuse-spec =
+    tie.close
+    (tie.spec
+    (λ c κs. search needs)
+    (λ c κs. search needs)
+    (λ c κs. search needs)
+    (λ c. search needs)
+    (λ c. search needs)
+    (λ c. search needs)
+    (λ c w. rw (c .before .before .zero-from2 .ensures, c .before .before .before .before .before .before .zero-from-u32 .ensures, c .before .before .before .before .before .before .before .before .before .before .zero-from .ensures, zero-all, zero-all, zero-all)))
