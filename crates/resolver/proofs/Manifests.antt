@@ -187,6 +187,9 @@ nearest-fits G ds = rw (nearest-sought G ds) (gives-bind _ (seek-fits ds) by)
 pub sought-fits : {L : Listing Sees} (ds : List Text) {s s′ : Tape} (x : Sought) → Done L (seek ds) s s′ (go (some x)) → length (manifestOf (x .dir)) ≤ 2048
 sought-fits {L} ds x d = gives-answer L (some x) (seek-fits ds) (d .back)
 
+pub scope-fits : {L : Listing Sees} (G : Settings) (ds : List Text) {s s′ : Tape} (x : Scope) → Done L (nearest G ds) s s′ (go (some x)) → length (manifestOf (x .dir)) ≤ 2048
+scope-fits {L} G ds x d = gives-answer L (some x) (nearest-fits G ds) (d .back)
+
 -- the nearest manifest, once it was sought
 module _ {L : Listing Sees} (G : Settings) (ds : List Text) {s s₁ : Tape} where
   pub nearest-none : Done L (seek ds) s s₁ (go none) → Done L (nearest G ds) s s₁ (go none)

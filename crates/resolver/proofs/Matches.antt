@@ -9,17 +9,18 @@ use denote.Enum.Declared.{tagOf, declared}
 use lib.ListN.{length, getD, drop, take}
 use lib.Seq.{take-all, take-append-le}
 use Rattle.definition.specs.Text.{Text, text, if_then_else_, startsWith, overwrite}
-use Rattle.definition.specs.Specifier.{dotSubpath}
+use Rattle.definition.specs.Path.{dirs}
+use Rattle.definition.specs.Specifier.{dotSubpath, stripPackageName}
 use Rattle.definition.specs.Json.{Json, Read, got, fault, quoted}
 use Rattle.definition.specs.JsonAt.{textAt, toldAt, getAt}
 use Rattle.definition.specs.JsonAtLaws.{Stands, Finds, finds, finds-none, get-here, text-told}
 use Rattle.definition.specs.Exports as exports
 use Rattle.definition.specs.Exports.{Failure, NotFound, Empty, InvalidPackageTarget, PackagePathNotExported, InvalidPackageConfig, InvalidPackageConfigDirectory, JsonError, failureNumber, failureTexts, PACKAGE-EXPORTS-RESOLVE}
 use Rattle.definition.specs.Ask.{Listing, Step, go, stop, Ask, ret, end, ask, read, _>>=_, _>>_}
-use Rattle.definition.specs.Manifest.{End, stopped, failed, Place, endNumber, endTexts, field, orFirst, firstField, fresh, resolvedTo, resolveExports, exportsOf, manifestView}
+use Rattle.definition.specs.Manifest.{Manifest, stopped, failed, Place, endNumber, endTexts, field, orFirst, firstField, fresh, resolvedTo, resolveExports, exportsOf, manifestView, ifText}
 use Rattle.definition.specs.Called.{joined}
 use Rattle.definition.specs.Settings.{Settings}
-use Rattle.definition.specs.Walk.{Look, perhaps, given, never, notFound, isDir, when, LOAD-AS-FILE, LOAD-AS-DIRECTORY, RESOLVE-ESM-MATCH, byExports}
+use Rattle.definition.specs.Walk.{Look, perhaps, given, never, notFound, LOAD-AS-FILE, RESOLVE-ESM-MATCH, byExports, own, LOAD-PACKAGE-EXPORTS, Scope, inScope, nearest, LOAD-PACKAGE-SELF}
 use Rattle.package_json.proofs.Cursor as cursor
 use Rattle.package_json.specs.declared.Cursor.{Cursor}
 use Rattle.package_json.specs.declared.Cursor.the-variants.{At, Nothing}
@@ -30,12 +31,14 @@ use Rattle.resolver.specs.declared.Ending.{Ending}
 use Rattle.resolver.specs.declared.Mark.{Mark}
 use Rattle.resolver.specs.declared.Way.{Way}
 use Rattle.resolver.specs.declared.Way.the-variants.{Next, Stopped}
+use Rattle.resolver.specs.declared.Package.{Package}
 use Rattle.resolver.specs.Tape.{Tape, Done, endingOf, done-ret, done-bind, done-stop}
 use Rattle.resolver.specs.Meaning.{tapeOf, stepOf, place, Sees}
-use Rattle.resolver.specs.Routines.{Finishes, ifDirectory, foundOf, matchExports}
+use Rattle.resolver.specs.Routines.{Finishes, ifDirectory, foundOf, matchExports, scopeOf}
 use Rattle.resolver.proofs.Way as way
 use Rattle.resolver.proofs.Steps.{Ends, done-finish}
-use Rattle.resolver.proofs.Ways.{ended, onward, way-ended, way-onward}
+use Rattle.resolver.proofs.Manifests.{perhaps-none, perhaps-some}
+use Rattle.resolver.proofs.Ways.{ended, way-onward}
 
 -- THE TEXTS OF AN ERROR. The text of a key, which is read once more
 pub key-read : (s w : Text) → 1024 ≤ length w → orEmpty (textAt s w .text) ≡ readText (quoted s)
@@ -62,7 +65,7 @@ unfolding given
 done-failed h z ns list m = done-finish h _ _ _ (z .ending) (rw (z .texts))
 
 -- RESOLVE_ESM_MATCH. One routine after two others
-pub bind-bind : {E M A B C : Type 0} (m : Ask E M A) (f : A → Ask E M B) (g : B → Ask E M C) → (m >>= f) >>= g ≡ m >>= λ x. f x >>= g
+bind-bind : {E M A B C : Type 0} (m : Ask E M A) (f : A → Ask E M B) (g : B → Ask E M C) → (m >>= f) >>= g ≡ m >>= λ x. f x >>= g
 unfolding _>>=_
 bind-bind (ret a) f g = refl
 bind-bind (end e) f g = refl
@@ -171,3 +174,43 @@ module _ (G : Settings) (spec dir sub : Text) (j : Json) (m : Text) (c : Cursor)
     where
       by : {o : Option Json} → Finds 15 o (some (drop i m)) → Done L (perhaps (exportsOf G o) λ resolve. given (resolve dir (dotSubpath sub)) >>= λ w. never (RESOLVE-ESM-MATCH G spec w)) s s′ r
       by (finds {j = k} h) = g k h
+
+-- LOAD_PACKAGE_EXPORTS: without a manifest, and with one
+module _ {L : Listing Sees} (G : Settings) (spec sub dir : Text) {s s₁ : Tape} where
+  pub package-bare : Done L (own G dir) s s₁ (go none) → Done L (LOAD-PACKAGE-EXPORTS G spec sub dir) s s₁ (go tt)
+  unfolding LOAD-PACKAGE-EXPORTS perhaps
+  package-bare d = done-bind _ d done-ret
+
+  pub package-manifest : {s₂ : Tape} {r : Step Ending (Unit {0})} (m : Manifest) → Done L (own G dir) s s₁ (go (some m)) → Done L (byExports G spec dir sub m) s₁ s₂ r → Done L (LOAD-PACKAGE-EXPORTS G spec sub dir) s s₂ r
+  unfolding LOAD-PACKAGE-EXPORTS perhaps
+  package-manifest m d g = done-bind _ d g
+
+-- LOAD_PACKAGE_SELF, 3. to 6.: the manifest has no name, the specifier does not begin with it, or the exports follow
+module _ {L : Listing Sees} (G : Settings) (spec dir : Text) (j : Json) {s : Tape} where
+  pub self-nameless : none ≡ ifText (field j (text "name")) → Done L (inScope G spec (record { dir = dir; manifest = manifestView G j })) s s (go tt)
+  unfolding inScope manifestView
+  self-nameless e = perhaps-none _ _ e
+
+  module _ (n : Text) (e : some n ≡ ifText (field j (text "name"))) where
+    pub self-other : none ≡ stripPackageName spec n → Done L (inScope G spec (record { dir = dir; manifest = manifestView G j })) s s (go tt)
+    unfolding inScope manifestView
+    self-other o = perhaps-some _ _ n e (perhaps-none _ _ o)
+
+    pub self-named : {s′ : Tape} {r : Step Ending (Unit {0})} (sub : Text) → some sub ≡ stripPackageName spec n → Done L (byExports G spec dir sub (manifestView G j)) s s′ r → Done L (inScope G spec (record { dir = dir; manifest = manifestView G j })) s s′ r
+    unfolding inScope manifestView
+    self-named sub o d = perhaps-some _ _ n e (perhaps-some _ _ sub o d)
+
+-- LOAD_PACKAGE_SELF: the scope's manifest ended the lookup, there is no scope, or there is one
+module _ {L : Listing Sees} (G : Settings) (start spec : Text) {s s₁ : Tape} where
+  pub self-ended : (l : Text) (w : Way) (p : Package) → tagOf (declared way.enum) w ≡ 1 → Done L (nearest G (dirs start)) s s₁ (scopeOf G l start w p) → Done L (LOAD-PACKAGE-SELF G start spec) s s₁ (stepOf w)
+  unfolding LOAD-PACKAGE-SELF
+  self-ended l Next p h d = absurd (omega arith)
+  self-ended l (Stopped x) p h d = done-stop _ d
+
+  pub self-bare : Done L (nearest G (dirs start)) s s₁ (go none) → Done L (LOAD-PACKAGE-SELF G start spec) s s₁ (go tt)
+  unfolding LOAD-PACKAGE-SELF perhaps
+  self-bare d = done-bind _ d done-ret
+
+  pub self-scope : {s₂ : Tape} {r : Step Ending (Unit {0})} (x : Scope) → Done L (nearest G (dirs start)) s s₁ (go (some x)) → Done L (inScope G spec x) s₁ s₂ r → Done L (LOAD-PACKAGE-SELF G start spec) s s₂ r
+  unfolding LOAD-PACKAGE-SELF perhaps
+  self-scope x d g = done-bind _ d g

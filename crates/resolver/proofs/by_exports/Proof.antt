@@ -1,7 +1,5 @@
 use mathlib.Core.Path.{_∙_}
 use native.Mathlib.Omega.{arith}
-use Prim.Native.Nat.{_<_}
-use lib.ListN.{length}
 use Rattle.definition.specs.Settings.{settingsOf}
 use Rattle.resolver.proofs.Matches.{dotted-text, exports-missing, exports-there}
 use borrow.Author.Needs.{needs}

@@ -1,3 +1,8 @@
+use mathlib.Core.Path.{_∙_}
+use Rattle.definition.specs.Settings.{settingsOf}
+use Rattle.definition.specs.Walk.{LOAD-PACKAGE-EXPORTS}
+use Rattle.resolver.proofs.Manifests.{own-ended}
+use Rattle.resolver.proofs.Matches.{package-bare, package-manifest}
 use borrow.Author.Needs.{needs}
 use Rattle.resolver.proofs.load_package_exports.Statement.{statement}
 use Rattle.resolver.proofs.load_package_exports.Tie as tie
@@ -7,106 +12,33 @@ use Rattle.listing.proofs.contents.Reads as contents-reads
 use Rattle.resolver.proofs.by_exports.Reads as by-exports-reads
 use Rattle.resolver.proofs.own.Reads as own-reads
 
--- src/lib.rt:1094:9
-own-requires : tie.Need-own-requires
-own-requires c κs = search needs
-
-enum-told : tie.Need-enum-told
-enum-told c = search needs
-
--- src/lib.rt:1098:9
-enum-told-2 : tie.Need-enum-told-2
-enum-told-2 c = search needs
-
--- src/lib.rt:1098:9
-same-length : tie.Need-same-length
-same-length c = search needs
-
--- src/lib.rt:1098:9
-same-length-2 : tie.Need-same-length-2
-same-length-2 c = search needs
-
--- src/lib.rt:1098:9
-same-length-3 : tie.Need-same-length-3
-same-length-3 c = search needs
-
--- src/lib.rt:1098:9
-returns : tie.Need-returns
-returns c = ?
-
--- src/lib.rt:1103:9
-enum-known-package : tie.Need-enum-known-package
-enum-known-package c = search needs
-
--- src/lib.rt:1109:18
-enum-told-3 : tie.Need-enum-told-3
-enum-told-3 c = search needs
-
--- src/lib.rt:1108:9
-same-length-4 : tie.Need-same-length-4
-same-length-4 c = search needs
-
--- src/lib.rt:1108:9
-same-length-5 : tie.Need-same-length-5
-same-length-5 c = search needs
-
--- src/lib.rt:1108:9
-same-length-6 : tie.Need-same-length-6
-same-length-6 c = search needs
-
--- src/lib.rt:1108:9
-returns-2 : tie.Need-returns-2
-returns-2 c = ?
-
--- src/lib.rt:1113:9
-contents-requires : tie.Need-contents-requires
-contents-requires c κs = search needs
-
--- src/lib.rt:1114:5
-by-exports-requires : tie.Need-by-exports-requires
-by-exports-requires c κs = ?
-
--- src/lib.rt:1079:1
-same-length-7 : tie.Need-same-length-7
-same-length-7 c = ?
-
--- src/lib.rt:1079:1
-same-length-8 : tie.Need-same-length-8
-same-length-8 c = search needs
-
--- src/lib.rt:1079:1
-same-length-9 : tie.Need-same-length-9
-same-length-9 c = search needs
-
--- src/lib.rt:1079:1
-same-length-10 : tie.Need-same-length-10
-same-length-10 c = search needs
-
--- src/lib.rt:1079:1
-returns-3 : tie.Need-returns-3
-returns-3 c = ?
-
 pub load-package-exports-spec : {M : Type 1} → statement M
 load-package-exports-spec =
     tie.close
     (tie.spec
-    own-requires
-    enum-told
-    enum-told-2
-    same-length
-    same-length-2
-    same-length-3
-    returns
-    enum-known-package
-    enum-told-3
-    same-length-4
-    same-length-5
-    same-length-6
-    returns-2
-    contents-requires
-    by-exports-requires
-    same-length-7
-    same-length-8
-    same-length-9
-    same-length-10
-    returns-3)
+    (λ c κs. search needs)
+    (λ c. search needs)
+    (λ c. search needs)
+    (λ c. search needs)
+    (λ c. search needs)
+    (λ c. search needs)
+    (λ c.
+    unfold LOAD-PACKAGE-EXPORTS in
+    let o = c .before .before .before .before .before .before .before .before .before .own in
+    own-ended (settingsOf (c .before .before .before .before .before .before .before .before .before .before .before .before .before .before .before .before .before .before .before .before .before .before .args .s .now)) (c .before .before .before .before .before .before .before .before .before .before .before .before .before .before .before .before .before .before .before .before .before .before .args .l .now) (o .result .way) (o .result .package) _ (c .before .match .keys2) (o .ensures .0 (settingsOf (c .before .before .before .before .before .before .before .before .before .before .before .before .before .before .before .before .before .before .before .before .before .before .args .s .now))))
+    (λ c. search needs)
+    (λ c. search needs)
+    (λ c. search needs)
+    (λ c. search needs)
+    (λ c. search needs)
+    (λ c. package-bare _ _ _ _ (rw (c .before .before .enum-told .given .1, c .enum-told3 .given .1) at (c .before .before .before .before .before .before .before .before .before .before .before .own .ensures .0 (settingsOf (c .before .before .before .before .before .before .before .before .before .before .before .before .before .before .before .before .before .before .before .before .before .before .before .before .args .s .now)))))
+    (λ c κs. search needs)
+    (λ c κs. (c .before .before .before .before .before .before .before .before .before .before .before .before .before .before .before .before .before .before .before .before .before .before .before .before .before .before .before .before .before .before .pre .0, c .before .before .before .before .before .before .before .before .before .before .before .before .before .before .before .before .before .before .before .before .before .before .before .before .before .before .before .before .before .before .pre .1, rw (c .before .before .before .before .before .before .before .before .enum-told .given .1, c .before .before .before .before .before .before .package .given .1) at (c .before .before .before .before .before .before .before .before .before .before .before .before .before .before .before .before .before .own .ensures .1 .1)))
+    (λ c. c .before .before .before .before .before .before .before .before .by-exports .kept .1 .1 .1 .1 .1 .1 .1 .0 ∙ c .before .before .before .before .before .before .before .before .before .before .before .before .before .before .before .before .before .before .before .before .before .before .before .before .before .before .own .kept .1 .1 .0)
+    (λ c. search needs)
+    (λ c. search needs)
+    (λ c. search needs)
+    (λ c.
+    let o = c .before .before .before .before .before .before .before .before .before .before .before .before .before .before .before .before .before .before .before .before .before .before .before .before .before .before .own in
+    let p = c .before .before .before .before .before .before .before .before .before .before .before .before .before .before .before .package .given in
+    package-manifest _ _ _ _ _ (rw (c .before .before .before .before .before .before .before .before .before .before .before .before .before .before .before .before .before .enum-told .given .1, p .1) at (o .ensures .0 (settingsOf (c .before .before .before .before .before .before .before .before .before .before .before .before .before .before .before .before .before .before .before .before .before .before .before .before .before .before .before .before .before .before .before .before .before .before .before .before .before .before .before .args .s .now)))) (c .before .before .before .before .before .before .before .before .by-exports .ensures _ (rw (c .before .before .before .before .before .before .before .before .before .before .before .before .before .contents .ensures) (rw (p .1) at (o .ensures .1 .0))))))
