@@ -153,16 +153,19 @@ fn check_room(ending: Ending, mark: Mark, result: usize, nums: usize, text: usiz
     ensures refusal { λ r. ⌜ ((e : End) (l : List Consult) (w : ℕ) → Counted e l ending mark → delivered (roomsBy result nums text w) e l ≡ unlessRefused (roomsBy result nums text w) (refusalBy r) (written (roomsBy result nums text w) e l)) ⌝ }
     ensures room { λ r. ⌜ (r ≡ Checked.Accepted → Room ending mark result nums text) ⌝ }
 {
+    let texts = ending.first + ending.second + ending.third;
+    let numbers = 2 + 2 * mark.count;
+    let size = mark.size;
     if ending.number > 7 {
         return Checked::Refused(ending.number);
     }
-    if result < ending.first + ending.second + ending.third {
+    if result < texts {
         return Checked::Refused(20);
     }
-    if nums < 2 + 2 * mark.count {
+    if nums < numbers {
         return Checked::Refused(21);
     }
-    if text < mark.size {
+    if text < size {
         return Checked::Refused(21);
     }
     Checked::Accepted
