@@ -58,13 +58,13 @@ module _ (l : List Consult) where
       z ∙ rw (e, a, b) (zero-behind (2 + 2 * length l) (listNumbers l) _ (sym (length-numbers l)) (spread-begins xs (rw a at h) g)) ∙ ap (λ m. padded m (listNumbers l)) w
 
 -- zeros in all of it
-pub zero-all : (s : List ℕ) → zeroFrom 0 s ≡ replicate (length s) 0
+pub zero-all : (s t : List ℕ) → t ≡ zeroFrom 0 s → t ≡ replicate (length s) 0
 unfolding zeroFrom
-zero-all s = let e : length s - 0 ≡ length s = omega arith in rw e
+zero-all s t h = let e : length s - 0 ≡ length s = omega arith in h ∙ rw e
 
 -- a text that stands there, and zeros behind it
-pub text-done : (n : ℕ) (s buffer : List ℕ) → n ≡ length s → n ≤ length buffer → Begins s buffer → zeroFrom n buffer ≡ padded (length buffer) s
-text-done n s buffer h k b = zero-behind n s buffer h (rw h (b (rw h at k)))
+pub text-done : (n : ℕ) (s d t : List ℕ) → n ≡ length s → n ≤ length d → Begins s d → t ≡ zeroFrom n d → t ≡ padded (length d) s
+text-done n s d t h k b e = e ∙ zero-behind n s d h (rw h (b (rw h at k)))
 
 -- an answer with its buffers is what the definition has written
 pub filled : (a : Answer) (r n t r′ n′ t′ : List ℕ) (e : End) (l : List Consult) (w : ℕ) → (numberOf a ≡ endNumber e) × (lengthsOf a ≡ map length (endTexts e))

@@ -78,52 +78,38 @@ fn answer_of(ending: Ending) -> Answer
     ensures { λ r. ⌜ ((e : End) → ending ≡ endingOf e → (numberOf r ≡ endNumber e) × (lengthsOf r ≡ map length (endTexts e))) ⌝ }
 {
     let number = ending.number;
-    if number == 0 {
-        return Answer::Found {
+    match number {
+        0 => Answer::Found {
             path: ending.first,
             query: ending.second,
             fragment: ending.third,
-        };
-    }
-    if number == 1 {
-        return Answer::NotFound {
+        },
+        1 => Answer::NotFound {
             specifier: ending.first,
-        };
-    }
-    if number == 2 {
-        return Answer::Empty {
+        },
+        2 => Answer::Empty {
             target: ending.first,
-        };
-    }
-    if number == 3 {
-        return Answer::InvalidPackageTarget {
+        },
+        3 => Answer::InvalidPackageTarget {
             target: ending.first,
             key: ending.second,
             manifest: ending.third,
-        };
-    }
-    if number == 4 {
-        return Answer::PackagePathNotExported {
+        },
+        4 => Answer::PackagePathNotExported {
             subpath: ending.first,
             package: ending.second,
-        };
-    }
-    if number == 5 {
-        return Answer::InvalidPackageConfig {
+        },
+        5 => Answer::InvalidPackageConfig {
             manifest: ending.first,
-        };
-    }
-    if number == 6 {
-        return Answer::InvalidPackageConfigDirectory {
+        },
+        6 => Answer::InvalidPackageConfigDirectory {
             manifest: ending.first,
-        };
-    }
-    if number == 7 {
-        return Answer::Json {
+        },
+        7 => Answer::Json {
             manifest: ending.first,
-        };
+        },
+        _ => Answer::Refused(number),
     }
-    Answer::Refused(number)
 }
 
 // A refusal: zeros in all of result text, list numbers and list text.
@@ -153,16 +139,19 @@ fn check_room(ending: Ending, mark: Mark, result: usize, nums: usize, text: usiz
     ensures refusal { λ r. ⌜ ((e : End) (l : List Consult) (w : ℕ) → Counted e l ending mark → delivered (roomsBy result nums text w) e l ≡ unlessRefused (roomsBy result nums text w) (refusalBy r) (written (roomsBy result nums text w) e l)) ⌝ }
     ensures room { λ r. ⌜ (r ≡ Checked.Accepted → Room ending mark result nums text) ⌝ }
 {
+    let texts = ending.first + ending.second + ending.third;
+    let numbers = 2 + 2 * mark.count;
+    let size = mark.size;
     if ending.number > 7 {
         return Checked::Refused(ending.number);
     }
-    if result < ending.first + ending.second + ending.third {
+    if result < texts {
         return Checked::Refused(20);
     }
-    if nums < 2 + 2 * mark.count {
+    if nums < numbers {
         return Checked::Refused(21);
     }
-    if text < mark.size {
+    if text < size {
         return Checked::Refused(21);
     }
     Checked::Accepted

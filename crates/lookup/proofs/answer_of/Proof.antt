@@ -7,12 +7,14 @@ pub answer-of-spec : {M : Type 1} → statement M
 answer-of-spec =
     tie.close
     (tie.spec
-    (λ c e k. rw (c .if1 .taken) at (case-of (c .before .args .ending) e k))
-    (λ c e k. rw (c .if2 .taken) at (case-of (c .before .before .args .ending) e k))
-    (λ c e k. rw (c .if3 .taken) at (case-of (c .before .before .before .args .ending) e k))
-    (λ c e k. rw (c .if4 .taken) at (case-of (c .before .before .before .before .args .ending) e k))
-    (λ c e k. rw (c .if5 .taken) at (case-of (c .before .before .before .before .before .args .ending) e k))
-    (λ c e k. rw (c .if6 .taken) at (case-of (c .before .before .before .before .before .before .args .ending) e k))
-    (λ c e k. rw (c .if7 .taken) at (case-of (c .before .before .before .before .before .before .before .args .ending) e k))
-    (λ c e k. rw (c .if8 .taken) at (case-of (c .before .before .before .before .before .before .before .before .args .ending) e k))
-    (λ c e k. simp (ne-eqb _ _ (c .before .before .before .before .before .before .before .if1 .left), ne-eqb _ _ (c .before .before .before .before .before .before .if2 .left), ne-eqb _ _ (c .before .before .before .before .before .if3 .left), ne-eqb _ _ (c .before .before .before .before .if4 .left), ne-eqb _ _ (c .before .before .before .if5 .left), ne-eqb _ _ (c .before .before .if6 .left), ne-eqb _ _ (c .before .if7 .left), ne-eqb _ _ (c .if8 .left)) at (case-of (c .before .before .before .before .before .before .before .before .args .ending) e k)))
+    (λ c e k. rw (c .match .keys1) at (case-of (c .before .args .ending) e k))
+    (λ c e k. rw (c .match .keys2) at (case-of (c .before .args .ending) e k))
+    (λ c e k. rw (c .match .keys3) at (case-of (c .before .args .ending) e k))
+    (λ c e k. rw (c .match .keys4) at (case-of (c .before .args .ending) e k))
+    (λ c e k. rw (c .match .keys5) at (case-of (c .before .args .ending) e k))
+    (λ c e k. rw (c .match .keys6) at (case-of (c .before .args .ending) e k))
+    (λ c e k. rw (c .match .keys7) at (case-of (c .before .args .ending) e k))
+    (λ c e k. rw (c .match .keys8) at (case-of (c .before .args .ending) e k))
+    (λ c e k.
+    let r = c .match .rest in
+    simp (ne-eqb _ _ (r .0 .0 .0 .0 .0 .0 .0 .1), ne-eqb _ _ (r .0 .0 .0 .0 .0 .0 .1), ne-eqb _ _ (r .0 .0 .0 .0 .0 .1), ne-eqb _ _ (r .0 .0 .0 .0 .1), ne-eqb _ _ (r .0 .0 .0 .1), ne-eqb _ _ (r .0 .0 .1), ne-eqb _ _ (r .0 .1), ne-eqb _ _ (r .1)) at (case-of (c .before .args .ending) e k)))

@@ -13,12 +13,12 @@ unfolding unlessRefused
 check-room-spec =
     tie.close
     (tie.spec
-    (λ c. (λ e l w g. own (roomsBy (c .before .before .args .result) (c .before .before .args .nums) (c .before .before .args .text) w) e l (c .before .before .args .ending) (c .before .before .args .mark) g (omega arith), λ z. absurd (let q : _≡_ {A = ℕ} 0 1 = cc in omega arith)))
     (λ c. search needs)
     (λ c. search needs)
-    (λ c. (λ e l w g. short-result (roomsBy (c .before .before .before .before .before .args .result) (c .before .before .before .before .before .args .nums) (c .before .before .before .before .before .args .text) w) e l (c .before .before .before .before .before .args .ending) (c .before .before .before .before .before .args .mark) g (omega arith) (omega arith), λ z. absurd (let q : _≡_ {A = ℕ} 0 1 = cc in omega arith)))
     (λ c. search needs)
     (λ c. search needs)
+    (λ c. (λ e l w g. own (roomsBy (c .before .before .before .before .before .args .result) (c .before .before .before .before .before .args .nums) (c .before .before .before .before .before .args .text) w) e l (c .before .before .before .before .before .args .ending) (c .before .before .before .before .before .args .mark) g (omega arith), λ z. absurd (let q : _≡_ {A = ℕ} 0 1 = cc in omega arith)))
+    (λ c. (λ e l w g. short-result (roomsBy (c .before .before .before .before .before .before .args .result) (c .before .before .before .before .before .before .args .nums) (c .before .before .before .before .before .before .args .text) w) e l (c .before .before .before .before .before .before .args .ending) (c .before .before .before .before .before .before .args .mark) g (omega arith) (omega arith), λ z. absurd (let q : _≡_ {A = ℕ} 0 1 = cc in omega arith)))
     (λ c. (λ e l w g. short-numbers (roomsBy (c .before .before .before .before .before .before .before .args .result) (c .before .before .before .before .before .before .before .args .nums) (c .before .before .before .before .before .before .before .args .text) w) e l (c .before .before .before .before .before .before .before .args .ending) (c .before .before .before .before .before .before .before .args .mark) g (omega arith) (omega arith) (omega arith), λ z. absurd (let q : _≡_ {A = ℕ} 0 1 = cc in omega arith)))
-    (λ c. (λ e l w g. short-list (roomsBy (c .before .before .before .before .before .before .before .before .before .args .result) (c .before .before .before .before .before .before .before .before .before .args .nums) (c .before .before .before .before .before .before .before .before .before .args .text) w) e l (c .before .before .before .before .before .before .before .before .before .args .ending) (c .before .before .before .before .before .before .before .before .before .args .mark) g (omega arith) (omega arith) (omega arith), λ z. absurd (let q : _≡_ {A = ℕ} 0 1 = cc in omega arith)))
-    (λ c. (λ e l w g. all-fits (roomsBy (c .before .before .before .before .before .before .before .before .before .args .result) (c .before .before .before .before .before .before .before .before .before .args .nums) (c .before .before .before .before .before .before .before .before .before .args .text) w) e l (c .before .before .before .before .before .before .before .before .before .args .ending) (c .before .before .before .before .before .before .before .before .before .args .mark) g (omega arith) (omega arith) (omega arith) (omega arith), λ z. search needs)))
+    (λ c. (λ e l w g. short-list (roomsBy (c .before .before .before .before .before .before .before .before .args .result) (c .before .before .before .before .before .before .before .before .args .nums) (c .before .before .before .before .before .before .before .before .args .text) w) e l (c .before .before .before .before .before .before .before .before .args .ending) (c .before .before .before .before .before .before .before .before .args .mark) g (omega arith) (omega arith) (omega arith), λ z. absurd (let q : _≡_ {A = ℕ} 0 1 = cc in omega arith)))
+    (λ c. (λ e l w g. all-fits (roomsBy (c .before .before .before .before .before .before .before .before .args .result) (c .before .before .before .before .before .before .before .before .args .nums) (c .before .before .before .before .before .before .before .before .args .text) w) e l (c .before .before .before .before .before .before .before .before .args .ending) (c .before .before .before .before .before .before .before .before .args .mark) g (omega arith) (omega arith) (omega arith) (omega arith), λ z. search needs)))

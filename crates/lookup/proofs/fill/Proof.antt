@@ -1,5 +1,5 @@
 use borrow.Author.Needs.{needs}
-use mathlib.Core.Path.{_∙_}
+use Rattle.lookup.specs.Walked.{textLength}
 use Rattle.lookup.proofs.Endings.{length-of}
 use Rattle.lookup.proofs.Filling.{text-done, filled}
 use Rattle.lookup.proofs.fill.Statement.{statement}
@@ -23,6 +23,6 @@ fill-spec =
     let room = c .before .before .before .before .before .before .before .before .before .before .before .before .before .before .before .before .before .before .pre .1 in
     let a = c .before .before .before .before .before .before .before .before .before .before .before .before .before .before .before .before .before .before .args in
     filled (c .answer-of .result) (a .result .now) (a .nums .now) (a .text .now) _ _ _ e l w (c .answer-of .ensures e (k .ending))
-    (c .before .before .before .before .before .before .before .before .before .before .before .zero-from .ensures ∙ text-done _ _ _ (length-of _ e (k .ending)) (room .result) (g .result))
+    (text-done (textLength (a .ending)) _ (a .result .now) _ (length-of _ e (k .ending)) (room .result) (g .result) (c .before .before .before .before .before .before .before .before .before .before .before .zero-from .ensures))
     (c .before .before .before .before .before .before .before .finish-numbers .ensures l (k .count) (k .size) (g .numbers))
-    (c .before .before .before .zero-from2 .ensures ∙ text-done _ _ _ (k .size) (room .list) (g .list))))
+    (text-done (a .mark .size) _ (a .text .now) _ (k .size) (room .list) (g .list) (c .before .before .before .zero-from2 .ensures))))

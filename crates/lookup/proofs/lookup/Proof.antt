@@ -15,4 +15,4 @@ lookup-spec =
     (λ c. search needs)
     (λ c.
     let r = c .before .before .before .before .before .before .before .before .before .before .before .before .resolve in
-    rw (c .before .before .zero-from .ensures, zero-all, r .kept .1 .1 .1 .1 .1 .1 .1 .0) (r .ensures)))
+    rw (zero-all (r .last .1 .1 .1 .1 .1 .1 .1 .0) _ (c .before .before .zero-from .ensures), r .kept .1 .1 .1 .1 .1 .1 .1 .0) (r .ensures)))

@@ -15,4 +15,6 @@ refuse-spec =
     (λ c. search needs)
     (λ c. search needs)
     (λ c. search needs)
-    (λ c w. rw (c .before .before .zero-from2 .ensures, c .before .before .before .before .before .before .zero-from-u32 .ensures, c .before .before .before .before .before .before .before .before .before .before .zero-from .ensures, zero-all, zero-all, zero-all)))
+    (λ c w.
+    let a = c .before .before .before .before .before .before .before .before .before .before .before .before .before .before .before .args in
+    rw (zero-all (a .result .now) _ (c .before .before .before .before .before .before .before .before .before .before .zero-from .ensures), zero-all (a .nums .now) _ (c .before .before .before .before .before .before .zero-from-u32 .ensures), zero-all (a .text .now) _ (c .before .before .zero-from2 .ensures))))
