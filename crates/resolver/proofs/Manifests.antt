@@ -40,7 +40,7 @@ use Rattle.resolver.specs.Tape.{Tape, Done, endingOf, numbered, done-ret
 use Rattle.resolver.specs.Meaning.{tapeOf, place, stepOf, numbers, Sees, manifestIn, Sought, orFurther, seek}
 use Rattle.resolver.specs.Routines.{judged, jsonOf, scopeOf, ownOf, Fits, mainField, Finishes}
 use Rattle.resolver.proofs.Way as ways
-use Rattle.resolver.proofs.Steps.{Ends, done-finish, done-refuse}
+use Rattle.resolver.proofs.Steps.{done-finish, done-refuse, ends-failed, made-fits, made-long}
 use Rattle.resolver.proofs.Climbs.{manifest-built}
 
 -- the path of a manifest, where it is within the limit
@@ -55,14 +55,10 @@ manifest-path d bytes n b h =
     by false e = cc
 
 -- A fault ends the lookup
-pub ends-json : (p : Text) → Ends (stopped (failed (JsonError p))) 7 p [] []
-unfolding endingOf endNumber endTexts failureNumber failureTexts joined
-ends-json p = record { ending = refl; texts = rw (append-nil p) }
-
 module _ {L : Listing Sees} (p : Text) (ns list : List ℕ) (m : Mark) where
   pub sound-malformed : {r : Ending} {b a : Text} → Finishes 7 p [] [] r b a → Done L (sound p (stop malformed)) (tapeOf b ns list m) (tapeOf a ns list m) (stop r)
-  unfolding sound
-  sound-malformed h = done-finish (ends-json p) _ _ _ (h .ending) (rw (h .texts))
+  unfolding sound failureNumber failureTexts
+  sound-malformed h = done-finish (ends-failed (JsonError p)) _ _ _ (h .ending) (rw (h .texts))
 
   pub sound-beyond : {b : Text} → Done L (sound p (stop beyond)) (tapeOf b ns list m) (tapeOf b ns list m) (stop (numbers 40 [] [] []))
   unfolding sound refusalNumber
@@ -287,24 +283,15 @@ unfolding mainPath equal startsWith
 main-plain [] n h = absurd (n refl)
 main-plain (b ∷ m) n h = rw (ne-eqb 47 b (λ e. h (sym e)))
 
--- a path that was built, and what follows, or 42
-module _ {A : Type 0} {L : Listing Sees} (f : Text → Look A) (b : Built) (bytes : Text) (n : ℕ) (e : pathAt bytes n ≡ b) where
-  pub made-long : {s : Tape} → 2048 < n → Done L (made b >>= f) s s (stop (numbers 42 [] [] []))
-  unfolding made pathAt refusalNumber
-  made-long h = rw (← e, lt-leb _ _ h) (done-stop _ (done-refuse pathTooLong _))
-
-  pub made-fits : {s s′ : Tape} {r : Step Ending A} → n ≤ 2048 → Done L (f (take n bytes)) s s′ r → Done L (made b >>= f) s s′ r
-  unfolding made pathAt
-  made-fits h g = rw (← e, le-leb _ _ h) (done-bind _ done-ret g)
-
+-- the main field's path, or 42
 module _ (G : Settings) {L : Listing Sees} (p q f main bytes : Text) (n : ℕ) (e : pathAt bytes n ≡ normalizeWith p (mainPath main)) where
   pub main-long : {s : Tape} → 2048 < n → Done L (loadMain G (place p q f) main) s s (stop (numbers 42 [] [] []))
   unfolding loadMain under
-  main-long h = made-long _ _ _ _ e h
+  main-long h = made-long _ _ e _ _ h
 
   pub main-fits : {s s′ : Tape} {r : Step Ending (Unit {0})} → n ≤ 2048 → Done L (LOAD-AS-FILE G (place (take n bytes) q f) >>= λ _. LOAD-INDEX G (place (take n bytes) q f)) s s′ r → Done L (loadMain G (place p q f) main) s s′ r
   unfolding loadMain under at _>>_
-  main-fits h d = made-fits _ _ _ _ e h d
+  main-fits h d = made-fits _ _ e _ h d
 
 -- one main field: a text that was told, or none
 pub text-there : (m w : Text) (t : TextAt) → OneOf (0 ∷ 1 ∷ []) (tagOf (declared textAts.enum) t) → textOf m w t ≡ some (orEmpty (textOf m w t))
@@ -335,13 +322,3 @@ module _ {L : Listing Sees} (G : Settings) (w : Place) {s s₁ s₂ : Tape} {r :
   pub directory-manifest : (j : Json) → Done L (own G (w .path)) s s₁ (go (some (manifestView G j))) → Done L (forEach (G .mainFields) (mainField G w j) >>= λ _. LOAD-INDEX G w) s₁ s₂ r → Done L (LOAD-AS-DIRECTORY G w) s s₂ r
   unfolding LOAD-AS-DIRECTORY perhaps manifestView mainField _>>_
   directory-manifest j d g = done-bind _ d g
-
--- what is done only where a path is a directory
-module _ {L : Listing Sees} (p : Text) (t : Look (Unit {0})) (k : ℕ) {s s₁ : Tape} (d : Done L (isDir p) s s₁ (go (eqb k 1))) where
-  pub no-directory : (k ≡ 1 → ⊥) → Done L (isDir p >>= λ b. when b t) s s₁ (go tt)
-  unfolding when
-  no-directory h = done-bind _ (rw (ne-eqb _ _ h) at d) done-ret
-
-  pub in-directory : {s₂ : Tape} {r : Step Ending (Unit {0})} → k ≡ 1 → Done L t s₁ s₂ r → Done L (isDir p >>= λ b. when b t) s s₂ r
-  unfolding when
-  in-directory h g = done-bind _ (rw (eq-eqb _ _ h) at d) g

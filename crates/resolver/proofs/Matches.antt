@@ -49,17 +49,6 @@ key-read s w l = by (quoted s) refl
     by (got t r) e = ap orEmpty (text-told s w t r l e)
     by (fault f) e = rw e
 
--- the number of a failure and its texts, of which those that it lacks are empty
-pub ends-failed : (f : Failure) → Ends (stopped (failed f)) (failureNumber f) (getD (failureTexts f) 0 []) (getD (failureTexts f) 1 []) (getD (failureTexts f) 2 [])
-unfolding endingOf endNumber endTexts failureTexts joined
-ends-failed (NotFound s) = record { ending = refl; texts = refl }
-ends-failed (Empty t) = record { ending = refl; texts = refl }
-ends-failed (InvalidPackageTarget t k m) = record { ending = refl; texts = rw (append-nil m) }
-ends-failed (PackagePathNotExported s p) = record { ending = refl; texts = refl }
-ends-failed (InvalidPackageConfig m) = record { ending = refl; texts = refl }
-ends-failed (InvalidPackageConfigDirectory m) = record { ending = refl; texts = refl }
-ends-failed (JsonError m) = record { ending = refl; texts = refl }
-
 pub done-failed : {A : Type 0} {L : Listing _} {f : Failure} {n : ℕ} {a b c : Text} → Ends (stopped (failed f)) n a b c → {r : Ending} {before after : Text} → Finishes n a b c r before after → (ns list : List ℕ) (m : Mark) → Done {A = A} L (given (stop (failed f))) (tapeOf before ns list m) (tapeOf after ns list m) (stop r)
 unfolding given
 done-failed h z ns list m = done-finish h _ _ _ (z .ending) (rw (z .texts))

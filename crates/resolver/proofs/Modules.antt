@@ -26,31 +26,10 @@ use Rattle.resolver.specs.declared.Way.the-variants.{Next, Stopped}
 use Rattle.resolver.specs.Tape.{Tape, put, Done, done-ret, done-bind, done-stop}
 use Rattle.resolver.specs.Meaning.{Sees, consultOf, numbers, stepOf}
 use Rattle.resolver.specs.Routines.{directoryOrFile, goingOf}
-use Rattle.resolver.proofs.Steps.{done-isDir, done-refuse}
+use Rattle.resolver.proofs.Steps.{made-long, made-fits, by-state}
 use Rattle.resolver.proofs.Climbs.{prefix, parent-take}
 use Rattle.resolver.proofs.Ways.{ended, way-passed, way-onward}
 use Rattle.resolver.proofs.Way
-
--- a path that was built, and what follows
-module _ {A : Type 0} {L : Listing Sees} {b : Built} (bytes : Text) (n : ℕ) (e : pathAt bytes n ≡ b) (f : Text → Look A) where
-  pub made-long : (s : Tape) → 2048 < n → Done L (made b >>= f) s s (stop (numbers 42 [] [] []))
-  unfolding made pathAt refusalNumber
-  made-long s h = rw (← e, lt-leb _ _ h) (done-stop _ (done-refuse pathTooLong s))
-
-  pub made-fits : {s s′ : Tape} {r : Step Ending A} → n ≤ 2048 → Done L (f (take n bytes)) s s′ r → Done L (made b >>= f) s s′ r
-  unfolding made pathAt
-  made-fits h d = rw (← e, le-leb _ _ h) (done-bind _ done-ret d)
-
--- whether a path is a directory, and what follows
-module _ {A : Type 0} (G : Settings) (l p : Text) (s s₁ : Tape) (k : ℕ) (e : k ≡ asked (entryAt l p)) (d : s₁ ≡ put s (consultOf p k)) (f : Bool → Look A) {s₂ : Tape} {r : Step Ending A} where
-  pub by-state : Done (seenBy G l) (f (eqb k 1)) s₁ s₂ r → Done (seenBy G l) (isDir p >>= f) s s₂ r
-  by-state g = done-bind f (done-isDir G l p s s₁ k e d) g
-
-  pub is-dir : k ≡ 1 → Done (seenBy G l) (f true) s₁ s₂ r → Done (seenBy G l) (isDir p >>= f) s s₂ r
-  is-dir h g = by-state (rw (eq-eqb _ _ h) g)
-
-  pub no-dir : (k ≡ 1 → ⊥) → Done (seenBy G l) (f false) s₁ s₂ r → Done (seenBy G l) (isDir p >>= f) s s₂ r
-  no-dir h g = by-state (rw (ne-eqb _ _ h) g)
 
 -- where DIR/NAME is no directory
 module _ (G : Settings) {L : Listing Sees} (spec name sub q : Text) where

@@ -8,9 +8,11 @@ use lib.Dec.{eqb}
 use lib.ListN.{length, getD, take}
 use Rattle.definition.specs.Text.{Text, overwrite}
 use Rattle.definition.specs.TextSteps.{overwrite-nil}
+use Rattle.definition.specs.Path.{Built}
 use Rattle.path.specs.Meaning.{pathAt}
 use Rattle.definition.specs.Listing.{Entry, noEntry, directoryEntry, fileEntry, entryAt}
 use Rattle.definition.specs.Settings.{Settings}
+use Rattle.definition.specs.Exports.{Failure, NotFound, Empty, InvalidPackageTarget, PackagePathNotExported, InvalidPackageConfig, InvalidPackageConfigDirectory, JsonError, failureNumber, failureTexts}
 use Rattle.definition.specs.Ask.{State, absent, directory, file, Listing, Consult, Step, go, stop, Ask, ret, end, ask, read, number, stateOf, asked, seen, viewed, _>>=_, _>>_}
 use Rattle.definition.specs.AskLaws.{state-viewed}
 use Rattle.definition.specs.Manifest.{End, found, stopped, failed, refused, Place, endNumber, endTexts, Refusal, pathTooLong, refusalNumber, view}
@@ -18,7 +20,7 @@ use Rattle.definition.specs.Called.{seenBy, joined}
 use Rattle.definition.specs.Walk.{Look, isFile, isDir, isFileState, isDirState, when, made, tryFile}
 use Rattle.resolver.specs.declared.Ending.{Ending}
 use Rattle.resolver.specs.Tape.{Tape, put, ended, endingOf, Done, done-ret, done-end, done-ask, done-bind, done-stop}
-use Rattle.resolver.specs.Meaning.{consultOf, numbers, place, tryPath}
+use Rattle.resolver.specs.Meaning.{Sees, consultOf, numbers, place, tryPath}
 
 -- A question asked and noted
 file-state : {M : Type 0} (e : Entry M) → isFileState (stateOf e) ≡ eqb (asked e) 2
@@ -72,7 +74,18 @@ module _ (G : Settings) (L : Listing _) (w : Place) (s s₁ : Tape) (k : ℕ) (d
   unfolding tryFile when
   try-found h f = done-bind _ (rw (eq-eqb _ _ h) at d) f
 
--- A path that was built, or 42
+-- the number of a failure and its texts, of which those that it lacks are empty
+pub ends-failed : (f : Failure) → Ends (stopped (failed f)) (failureNumber f) (getD (failureTexts f) 0 []) (getD (failureTexts f) 1 []) (getD (failureTexts f) 2 [])
+unfolding endingOf endNumber endTexts failureTexts joined
+ends-failed (NotFound s) = record { ending = refl; texts = refl }
+ends-failed (Empty t) = record { ending = refl; texts = refl }
+ends-failed (InvalidPackageTarget t k m) = record { ending = refl; texts = rw (append-nil m) }
+ends-failed (PackagePathNotExported s p) = record { ending = refl; texts = refl }
+ends-failed (InvalidPackageConfig m) = record { ending = refl; texts = refl }
+ends-failed (InvalidPackageConfigDirectory m) = record { ending = refl; texts = refl }
+ends-failed (JsonError m) = record { ending = refl; texts = refl }
+
+-- refusals
 pub ends-refused : (r : Refusal) → Ends (stopped (refused r)) (refusalNumber r) [] [] []
 unfolding endingOf endNumber endTexts joined
 ends-refused r = record { ending = refl; texts = refl }
@@ -80,11 +93,32 @@ ends-refused r = record { ending = refl; texts = refl }
 pub done-refuse : {A M : Type 0} {L : Listing M} (r : Refusal) (s : Tape) → Done {A = A} L (end (stopped (refused r))) s s (stop (numbers (refusalNumber r) [] [] []))
 done-refuse r s = done-finish (ends-refused r) s s _ refl (rw (overwrite-nil 0 (s .result)))
 
+-- a path that was built, and what follows
+module _ {A : Type 0} {L : Listing Sees} {b : Built} (bytes : Text) (n : ℕ) (e : pathAt bytes n ≡ b) (f : Text → Look A) where
+  pub made-long : (s : Tape) → 2048 < n → Done L (made b >>= f) s s (stop (numbers 42 [] [] []))
+  unfolding made pathAt refusalNumber
+  made-long s h = rw (← e, lt-leb _ _ h) (done-stop _ (done-refuse pathTooLong s))
+
+  pub made-fits : {s s′ : Tape} {r : Step Ending A} → n ≤ 2048 → Done L (f (take n bytes)) s s′ r → Done L (made b >>= f) s s′ r
+  unfolding made pathAt
+  made-fits h d = rw (← e, le-leb _ _ h) (done-bind _ done-ret d)
+
 module _ (G : Settings) {L : Listing _} (bytes : Text) (n : ℕ) (q f : Text) where
   pub path-long : (s : Tape) → 2048 < n → Done L (tryPath G (pathAt bytes n) q f) s s (stop (numbers 42 [] [] []))
-  unfolding tryPath made pathAt refusalNumber
-  path-long s h = rw (lt-leb _ _ h) (done-stop _ (done-refuse pathTooLong s))
+  unfolding tryPath
+  path-long s h = made-long bytes n refl _ s h
 
   pub path-fits : {s s′ : Tape} {r : Step Ending (Unit {0})} → n ≤ 2048 → Done L (tryFile G (place (take n bytes) q f)) s s′ r → Done L (tryPath G (pathAt bytes n) q f) s s′ r
-  unfolding tryPath made pathAt
-  path-fits h d = rw (le-leb _ _ h) (done-bind _ done-ret d)
+  unfolding tryPath
+  path-fits h d = made-fits bytes n refl _ h d
+
+-- whether a path is a directory, and what follows
+module _ {A : Type 0} (G : Settings) (l p : Text) (s s₁ : Tape) (k : ℕ) (e : k ≡ asked (entryAt l p)) (d : s₁ ≡ put s (consultOf p k)) (f : Bool → Look A) {s₂ : Tape} {r : Step Ending A} where
+  pub by-state : Done (seenBy G l) (f (eqb k 1)) s₁ s₂ r → Done (seenBy G l) (isDir p >>= f) s s₂ r
+  by-state g = done-bind f (done-isDir G l p s s₁ k e d) g
+
+  pub is-dir : k ≡ 1 → Done (seenBy G l) (f true) s₁ s₂ r → Done (seenBy G l) (isDir p >>= f) s s₂ r
+  is-dir h g = by-state (rw (eq-eqb _ _ h) g)
+
+  pub no-dir : (k ≡ 1 → ⊥) → Done (seenBy G l) (f false) s₁ s₂ r → Done (seenBy G l) (isDir p >>= f) s s₂ r
+  no-dir h g = by-state (rw (ne-eqb _ _ h) g)

@@ -2,8 +2,8 @@ use Rattle.definition.specs.Exports.{Empty, InvalidPackageTarget, PackagePathNo
 use Rattle.definition.specs.Manifest.{pathTooLong, refusalNumber, resolvedTo}
 use Rattle.definition.specs.Walk.{given}
 use Rattle.resolver.specs.Tape.{done-ret}
-use Rattle.resolver.proofs.Steps.{done-refuse}
-use Rattle.resolver.proofs.Matches.{ends-failed, done-failed}
+use Rattle.resolver.proofs.Steps.{done-refuse, ends-failed}
+use Rattle.resolver.proofs.Matches.{done-failed}
 use borrow.Author.Needs.{needs}
 use Rattle.resolver.proofs.exports_ending.Statement.{statement}
 use Rattle.resolver.proofs.exports_ending.Tie as tie

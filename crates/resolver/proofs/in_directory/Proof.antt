@@ -1,7 +1,7 @@
 use mathlib.Core.Path.{sym, _∙_}
 use Rattle.definition.specs.Walk.{when, under, inDirectory}
 use Rattle.resolver.specs.Tape.{done-ret}
-use Rattle.resolver.proofs.Modules.{is-dir, no-dir, made-long, made-fits}
+use Rattle.resolver.proofs.Steps.{is-dir, no-dir, made-long, made-fits}
 use borrow.Author.Needs.{needs}
 use Rattle.resolver.proofs.in_directory.Statement.{statement}
 use Rattle.resolver.proofs.in_directory.Tie as tie

@@ -1,6 +1,6 @@
 use Rattle.definition.specs.Walk.{bare, asDirectory}
 use Rattle.resolver.specs.Routines.{directoryOrFile}
-use Rattle.resolver.proofs.Modules.{is-dir, no-dir}
+use Rattle.resolver.proofs.Steps.{is-dir, no-dir}
 use borrow.Author.Needs.{needs}
 use Rattle.resolver.proofs.load_directory_or_file.Statement.{statement}
 use Rattle.resolver.proofs.load_directory_or_file.Tie as tie

@@ -1,7 +1,7 @@
-use Rattle.definition.specs.Settings.{settingsOf}
+use Rattle.definition.specs.Walk.{when}
 use Rattle.resolver.specs.Routines.{ifDirectory}
-use Rattle.resolver.proofs.Steps.{done-isDir}
-use Rattle.resolver.proofs.Manifests.{no-directory, in-directory}
+use Rattle.resolver.specs.Tape.{done-ret}
+use Rattle.resolver.proofs.Steps.{is-dir, no-dir}
 use borrow.Author.Needs.{needs}
 use Rattle.resolver.proofs.load_if_directory.Statement.{statement}
 use Rattle.resolver.proofs.load_if_directory.Tie as tie
@@ -11,7 +11,7 @@ use Rattle.resolver.proofs.consult.Reads as consult-reads
 use Rattle.resolver.proofs.load_as_directory.Reads as load-as-directory-reads
 
 pub load-if-directory-spec : {M : Type 1} → statement M
-unfolding ifDirectory
+unfolding ifDirectory when
 load-if-directory-spec =
     tie.close
     (tie.spec
@@ -20,7 +20,7 @@ load-if-directory-spec =
     (λ c. search needs)
     (λ c.
     let a = c .before .before .before .before .before .before .before .consult .ensures in
-    no-directory _ _ _ (done-isDir (settingsOf (c .before .before .before .before .before .before .before .before .before .before .before .before .before .before .before .before .before .before .before .args .s .now)) _ _ _ _ _ (a .0) (a .1 _)) (c .if1 .taken))
+    no-dir _ _ _ _ _ _ (a .0) (a .1 _) _ (c .if1 .taken) done-ret)
     (λ c κs. search needs)
     (λ c. search needs)
     (λ c. search needs)
@@ -28,4 +28,4 @@ load-if-directory-spec =
     (λ c. search needs)
     (λ c.
     let a = c .before .before .before .before .before .before .before .before .before .before .before .before .before .before .before .before .before .before .before .before .consult .ensures in
-    in-directory _ _ _ (done-isDir (settingsOf (c .before .before .before .before .before .before .before .before .before .before .before .before .before .before .before .before .before .before .before .before .before .before .before .before .before .before .before .before .before .before .before .before .args .s .now)) _ _ _ _ _ (a .0) (a .1 _)) (c .before .before .before .before .before .before .before .before .before .before .before .before .before .if1 .left) (c .before .before .before .before .before .before .before .before .load-as-directory .ensures)))
+    is-dir _ _ _ _ _ _ (a .0) (a .1 _) _ (c .before .before .before .before .before .before .before .before .before .before .before .before .before .if1 .left) (c .before .before .before .before .before .before .before .before .load-as-directory .ensures)))

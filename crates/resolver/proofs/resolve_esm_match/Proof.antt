@@ -1,8 +1,8 @@
 use mathlib.Core.Path.{_∙_}
 use Rattle.definition.specs.Exports.{NotFound, failureNumber, failureTexts}
 use Rattle.definition.specs.Walk.{notFound}
-use Rattle.resolver.proofs.Steps.{done-finish}
-use Rattle.resolver.proofs.Matches.{ends-failed, match-file, match-directory, match-none}
+use Rattle.resolver.proofs.Steps.{done-finish, ends-failed}
+use Rattle.resolver.proofs.Matches.{match-file, match-directory, match-none}
 use borrow.Author.Needs.{needs}
 use Rattle.resolver.proofs.resolve_esm_match.Statement.{statement}
 use Rattle.resolver.proofs.resolve_esm_match.Tie as tie

@@ -4,9 +4,8 @@ use Rattle.definition.specs.Ask.{_>>_}
 use Rattle.definition.specs.Exports.{NotFound, failureNumber, failureTexts}
 use Rattle.definition.specs.Walk.{notFound, lookup}
 use Rattle.resolver.specs.Tape.{done-stop}
-use Rattle.resolver.proofs.Steps.{done-finish}
+use Rattle.resolver.proofs.Steps.{done-finish, ends-failed}
 use Rattle.resolver.proofs.Ways.{way-onward}
-use Rattle.resolver.proofs.Matches.{ends-failed}
 use borrow.Author.Needs.{needs}
 use Rattle.resolver.proofs.walk.Statement.{statement}
 use Rattle.resolver.proofs.walk.Tie as tie
