@@ -11,9 +11,9 @@ use Rattle.definition.specs.Exports.{failureNumber, NotFound, Empty, InvalidPac
 use Rattle.definition.specs.Ask.{Consult}
 use Rattle.definition.specs.Manifest.{manifestBeyond, nameTwice, pathTooLong, refusalNumber, failed, refused, End, found, stopped, endNumber, endTexts, isAnswer}
 use Rattle.definition.specs.Called.{Rooms, Left, joined, paths, listNumbers, zeros, written, delivered, unlessRefused}
-use Rattle.resolver.specs.Tape.{endingOf}
-use Rattle.resolver.specs.declared.Ending.{Ending}
-use Rattle.resolver.specs.declared.Mark.{Mark}
+use Rattle.files.specs.Tape.{endingOf}
+use Rattle.files.specs.declared.Ending.{Ending}
+use Rattle.files.specs.declared.Mark.{Mark}
 use Rattle.listing.specs.declared.Checked.{Checked}
 use Rattle.listing.specs.declared.Checked.the-variants.{Accepted, Refused}
 use Rattle.lookup.specs.Meaning.{refusalBy}

@@ -9,8 +9,8 @@ use Rattle.definition.specs.Text.{Text, if_then_else_}
 use Rattle.definition.specs.Exports.{failureNumber, failureTexts, NotFound, Empty, InvalidPackageTarget, PackagePathNotExported, InvalidPackageConfig, InvalidPackageConfigDirectory, JsonError}
 use Rattle.definition.specs.Manifest.{manifestBeyond, nameTwice, pathTooLong, refusalNumber, failed, refused, End, found, stopped, endNumber, endTexts}
 use Rattle.definition.specs.Called.{joined}
-use Rattle.resolver.specs.Tape.{endingOf}
-use Rattle.resolver.specs.declared.Ending.{Ending}
+use Rattle.files.specs.Tape.{endingOf}
+use Rattle.files.specs.declared.Ending.{Ending}
 use Rattle.lookup.specs.declared.Answer.{Answer}
 use Rattle.lookup.specs.declared.Answer.the-variants as case
 use Rattle.lookup.specs.Meaning.{numberOf, lengthsOf}

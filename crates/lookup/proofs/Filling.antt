@@ -10,7 +10,7 @@ use Rattle.definition.specs.Ask.{Consult}
 use Rattle.definition.specs.Manifest.{End, endNumber, endTexts}
 use Rattle.definition.specs.Called.{padded, joined, paths, listNumbers, written}
 use Rattle.definition.specs.WalkBounds.{AllFit}
-use Rattle.resolver.specs.Tape.{packed}
+use Rattle.files.specs.Tape.{packed}
 use Rattle.lookup.specs.declared.Answer.{Answer}
 use Rattle.lookup.specs.Meaning.{numberOf, lengthsOf, roomsOf, leftBy, spread}
 use Rattle.lookup.specs.Walked.{packedOf, Begins, Listed}

@@ -12,7 +12,7 @@ use Rattle.definition.specs.Ask.{Consult}
 use Rattle.definition.specs.Manifest.{End, endNumber, endTexts, isAnswer}
 use Rattle.definition.specs.Called.{Question, Rooms, Left, endOf, listOf, refusalOf, padded, joined, paths, listNumbers, zeros, written, delivered, unlessRefused, called}
 use Rattle.definition.specs.WalkBounds.{EndFits, end-fits}
-use Rattle.resolver.specs.declared.Ending.{Ending}
+use Rattle.files.specs.declared.Ending.{Ending}
 use Rattle.lookup.specs.declared.Answer.{Answer}
 use Rattle.lookup.specs.Meaning.{numberOf, lengthsOf, leftBy, exported, inThree}
 use Rattle.lookup.specs.Walked.{textLength}

@@ -12,8 +12,8 @@ use Rattle.definition.specs.Text.{overwrite}
 use Rattle.definition.specs.TextSteps.{overwrite-here, overwrite-nil, overwrite-past}
 use Rattle.definition.specs.Ask.{Consult}
 use Rattle.definition.specs.Called.{joined, paths}
-use Rattle.resolver.specs.Tape.{Tape, most, put, written}
-use Rattle.resolver.proofs.Laws.{overwrite-append}
+use Rattle.files.specs.Tape.{Tape, most, put, written}
+use Rattle.files.proofs.Laws.{overwrite-append}
 use Rattle.lookup.specs.Walked.{packedOf}
 
 -- one number at a place, and more behind it

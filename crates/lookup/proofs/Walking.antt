@@ -20,10 +20,10 @@ use Rattle.definition.specs.Walk.{lookup, ending}
 use Rattle.definition.specs.Called.{Question, Rooms, check, refusalOf, seenBy, endOf, listOf, joined, paths, Left, delivered, unlessRefused, called}
 use Rattle.definition.specs.WalkBounds.{all-fit, end-fits, text-short}
 use Rattle.definition.specs.Theorems.{longest-list}
-use Rattle.resolver.specs.Tape.{Tape, written, ended, after, endingOf, numbered, Done}
-use Rattle.resolver.specs.Meaning.{tapeOf}
-use Rattle.resolver.specs.declared.Ending.{Ending}
-use Rattle.resolver.specs.declared.Mark.{Mark}
+use Rattle.files.specs.Tape.{Tape, written, ended, after, endingOf, numbered, Done}
+use Rattle.files.specs.Meaning.{tapeOf}
+use Rattle.files.specs.declared.Ending.{Ending}
+use Rattle.files.specs.declared.Mark.{Mark}
 use Rattle.listing.specs.declared.Checked.{Checked}
 use Rattle.listing.specs.declared.Checked.the-variants.{Accepted}
 use Rattle.lookup.specs.Meaning.{roomsOf, refusalBy}

@@ -8,9 +8,9 @@ use Rattle.definition.specs.Ask.{Consult}
 use Rattle.definition.specs.Manifest.{End, endTexts}
 use Rattle.definition.specs.Called.{joined, paths}
 use Rattle.definition.specs.WalkBounds.{AllFit}
-use Rattle.resolver.specs.Tape.{packed, endingOf}
-use Rattle.resolver.specs.declared.Ending.{Ending}
-use Rattle.resolver.specs.declared.Mark.{Mark}
+use Rattle.files.specs.Tape.{packed, endingOf}
+use Rattle.files.specs.declared.Ending.{Ending}
+use Rattle.files.specs.declared.Mark.{Mark}
 
 -- a consult's length and state in one number
 abbrev pub packedOf : Consult → ℕ

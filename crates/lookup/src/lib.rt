@@ -1,7 +1,7 @@
 // The entry point: the checks in document 01's order, the lookup, and what it leaves in the lent buffers.
+use files::Ending;
+use files::Mark;
 use listing::Checked;
-use resolver::Ending;
-use resolver::Mark;
 ghost use mathlib.Core.Path.{_≡_};
 ghost use mathlib.Core.List.{List, [], _∷_, map};
 ghost use Prim.Native.Nat.{ℕ, _+_, _*_, _≤_};
@@ -9,7 +9,7 @@ ghost use lib.ListN.{length, replicate};
 ghost use Rattle.definition.specs.Ask.{Consult};
 ghost use Rattle.definition.specs.Manifest.{End, endNumber, endTexts};
 ghost use Rattle.definition.specs.Called.{Rooms, joined, paths, padded, listNumbers, zeros, written, delivered, unlessRefused, refusalOf, called};
-ghost use Rattle.resolver.specs.Tape.{endingOf};
+ghost use Rattle.files.specs.Tape.{endingOf};
 ghost use Rattle.lookup.specs.Meaning.{numberOf, lengthsOf, questionOf, roomsBy, roomsOf, leftBy, exported, inThree, refusalBy, spread};
 ghost use Rattle.lookup.specs.Walked.{numbersLength, Small, Counted, Listed, Walked, Room};
 

@@ -1,8 +1,3 @@
-pub mod Laws
-pub mod Steps
-pub mod Climbs
-pub mod Files
-pub mod Ways
 pub mod Manifests
 pub mod Matches
 pub mod Modules

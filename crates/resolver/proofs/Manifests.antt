@@ -30,18 +30,18 @@ use Rattle.package_json.specs.declared.TextAt.the-variants.{Manifest as InManif
 use Rattle.package_json.specs.Cursors.{textOf, orEmpty}
 use Rattle.package_json.proofs.TextAt as textAts
 use Rattle.path.specs.Meaning.{pathAt}
-use Rattle.resolver.specs.declared.Ending.{Ending}
-use Rattle.resolver.specs.declared.Mark.{Mark}
-use Rattle.resolver.specs.declared.Way.{Way}
-use Rattle.resolver.specs.declared.Way.the-variants.{Next, Stopped}
+use Rattle.files.specs.declared.Ending.{Ending}
+use Rattle.files.specs.declared.Mark.{Mark}
+use Rattle.files.specs.declared.Way.{Way}
+use Rattle.files.specs.declared.Way.the-variants.{Next, Stopped}
 use Rattle.resolver.specs.declared.Package.{Package}
 use Rattle.resolver.specs.declared.Package.the-variants.{Nowhere, At}
-use Rattle.resolver.specs.Tape.{Tape, Done, endingOf, numbered, done-ret, done-bind, done-stop}
-use Rattle.resolver.specs.Meaning.{tapeOf, place, stepOf, numbers, Sees, manifestIn, Sought, orFurther, seek}
+use Rattle.files.specs.Tape.{Tape, Done, endingOf, numbered, done-ret, done-bind, done-stop}
+use Rattle.files.specs.Meaning.{tapeOf, place, stepOf, numbers, Sees, manifestIn, Sought, orFurther, seek}
 use Rattle.resolver.specs.Routines.{judged, jsonOf, scopeOf, ownOf, Fits, mainField, Finishes}
-use Rattle.resolver.proofs.Way as ways
-use Rattle.resolver.proofs.Steps.{done-finish, done-refuse, ends-failed, made-fits, made-long}
-use Rattle.resolver.proofs.Climbs.{manifest-built}
+use Rattle.files.proofs.Way as ways
+use Rattle.files.proofs.Steps.{done-finish, done-refuse, ends-failed, made-fits, made-long}
+use Rattle.files.proofs.Climbs.{manifest-built}
 
 -- the path of a manifest, where it is within the limit
 pub manifest-path : (d bytes : Text) (n : ℕ) → pathAt bytes n ≡ andPath (limited d) (λ p. limited (manifestOf p)) → length (manifestOf d) ≤ 2048 → take n bytes ≡ manifestOf d

@@ -27,18 +27,18 @@ use Rattle.package_json.specs.declared.Cursor.the-variants.{At, Nothing}
 use Rattle.package_json.specs.Cursors.{placed, orEmpty}
 use Rattle.exports.specs.Chosen as chosen
 use Rattle.exports.specs.Chosen.{readText}
-use Rattle.resolver.specs.declared.Ending.{Ending}
-use Rattle.resolver.specs.declared.Mark.{Mark}
-use Rattle.resolver.specs.declared.Way.{Way}
-use Rattle.resolver.specs.declared.Way.the-variants.{Next, Stopped}
+use Rattle.files.specs.declared.Ending.{Ending}
+use Rattle.files.specs.declared.Mark.{Mark}
+use Rattle.files.specs.declared.Way.{Way}
+use Rattle.files.specs.declared.Way.the-variants.{Next, Stopped}
 use Rattle.resolver.specs.declared.Package.{Package}
-use Rattle.resolver.specs.Tape.{Tape, Done, endingOf, done-ret, done-bind, done-stop}
-use Rattle.resolver.specs.Meaning.{tapeOf, stepOf, place, Sees}
+use Rattle.files.specs.Tape.{Tape, Done, endingOf, done-ret, done-bind, done-stop}
+use Rattle.files.specs.Meaning.{tapeOf, stepOf, place, Sees}
 use Rattle.resolver.specs.Routines.{Finishes, ifDirectory, foundOf, matchExports, scopeOf}
-use Rattle.resolver.proofs.Way as way
-use Rattle.resolver.proofs.Steps.{Ends, done-finish}
+use Rattle.files.proofs.Way as way
+use Rattle.files.proofs.Steps.{Ends, done-finish}
 use Rattle.resolver.proofs.Manifests.{perhaps-none, perhaps-some}
-use Rattle.resolver.proofs.Ways.{ended, way-onward}
+use Rattle.files.proofs.Ways.{ended, way-onward}
 
 -- THE TEXTS OF AN ERROR. The text of a key, which is read once more
 pub key-read : (s w : Text) → 1024 ≤ length w → orEmpty (textAt s w .text) ≡ readText (quoted s)

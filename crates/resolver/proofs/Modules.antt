@@ -20,16 +20,16 @@ use Rattle.definition.specs.Called.{seenBy}
 use Rattle.definition.specs.Walk.{Look, when, unless, perhaps, isDir, made, under, bare, LOAD-AS-FILE, LOAD-PACKAGE-EXPORTS, inScopeDir, goOn, asDirectory, asFileOrDirectory, inModules, inDirectory}
 use Rattle.path.specs.Meaning.{pathAt}
 use denote.Enum.Declared.{tagOf, declared}
-use Rattle.resolver.specs.declared.Ending.{Ending}
-use Rattle.resolver.specs.declared.Way.{Way}
-use Rattle.resolver.specs.declared.Way.the-variants.{Next, Stopped}
-use Rattle.resolver.specs.Tape.{Tape, put, Done, done-ret, done-bind, done-stop}
-use Rattle.resolver.specs.Meaning.{Sees, consultOf, numbers, stepOf}
+use Rattle.files.specs.declared.Ending.{Ending}
+use Rattle.files.specs.declared.Way.{Way}
+use Rattle.files.specs.declared.Way.the-variants.{Next, Stopped}
+use Rattle.files.specs.Tape.{Tape, put, Done, done-ret, done-bind, done-stop}
+use Rattle.files.specs.Meaning.{Sees, consultOf, numbers, stepOf}
 use Rattle.resolver.specs.Routines.{directoryOrFile, goingOf}
-use Rattle.resolver.proofs.Steps.{made-long, made-fits, by-state}
-use Rattle.resolver.proofs.Climbs.{prefix, parent-take}
-use Rattle.resolver.proofs.Ways.{ended, way-passed, way-onward}
-use Rattle.resolver.proofs.Way
+use Rattle.files.proofs.Steps.{made-long, made-fits, by-state}
+use Rattle.files.proofs.Climbs.{prefix, parent-take}
+use Rattle.files.proofs.Ways.{ended, way-passed, way-onward}
+use Rattle.files.proofs.Way
 
 -- where DIR/NAME is no directory
 module _ (G : Settings) {L : Listing Sees} (spec name sub q : Text) where

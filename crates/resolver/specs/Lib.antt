@@ -1,4 +1,1 @@
-pub mod Tape
-pub mod Loop
-pub mod Meaning
 pub mod Routines

@@ -18,12 +18,12 @@ use Rattle.definition.specs.Manifest as definition
 use Rattle.definition.specs.Manifest.{Place, manifestView, ifText, field, resolveExports}
 use Rattle.definition.specs.Walk as walk
 use Rattle.definition.specs.Walk.{Look, perhaps, given, never, isDir, when, bare, sound, loadMain, LOAD-AS-DIRECTORY, RESOLVE-ESM-MATCH, asDirectory}
-use Rattle.resolver.specs.declared.Ending.{Ending}
-use Rattle.resolver.specs.declared.Way.{Way}
-use Rattle.resolver.specs.declared.Way.the-variants.{Next, Stopped}
+use Rattle.files.specs.declared.Ending.{Ending}
+use Rattle.files.specs.declared.Way.{Way}
+use Rattle.files.specs.declared.Way.the-variants.{Next, Stopped}
 use Rattle.resolver.specs.declared.Package.{Package}
 use Rattle.resolver.specs.declared.Package.the-variants.{Nowhere, At}
-use Rattle.resolver.specs.Meaning.{place, numbers, Sought}
+use Rattle.files.specs.Meaning.{place, numbers, Sought}
 
 -- The nearest manifest, judged: the definition's `nearest` is `seek`, and this where one was found
 unfoldable pub judged : Sought → Look (Option walk.Scope)

@@ -1,7 +1,12 @@
-// The walk of lib.rs: LOAD_AS_FILE to LOAD_NODE_MODULES over a lent listing. Each consult is written to the lent list as it is made.
+// The walk of lib.rs from LOAD_AS_DIRECTORY on, over a lent listing.
 use exports::Key;
 use exports::Match;
 use exports::Outcome;
+use files::Ending;
+use files::Mark;
+use files::Near;
+use files::Out;
+use files::Way;
 use package_json::Cursor;
 use package_json::TextAt;
 use path::PathBuf;
@@ -9,497 +14,30 @@ use settings::Kind;
 use specifier::Stripped;
 ghost use mathlib.Core.Path.{_≡_};
 ghost use mathlib.Core.Bool.{false, not, _&&_};
-ghost use mathlib.Core.List.{List, [], _++_};
-ghost use mathlib.Core.Option.{Option};
-ghost use Prim.Native.Nat.{ℕ, _+_, _≤_, _<_, min};
-ghost use lib.ListN.{length, set, getD, drop, take};
-ghost use Rattle.definition.specs.Text.{Text, text, overwrite, equal, endsWith};
-ghost use Rattle.definition.specs.Path.{depth, dirs, manifestOf, normalizeWith};
+ghost use mathlib.Core.List.{List, []};
+ghost use Prim.Native.Nat.{ℕ, _≤_, _<_};
+ghost use lib.ListN.{length, getD, drop, take};
+ghost use Rattle.definition.specs.Text.{text, equal, endsWith};
+ghost use Rattle.definition.specs.Path.{dirs, manifestOf, normalizeWith};
 ghost use Rattle.definition.specs.Specifier.{climbing};
 ghost use Rattle.definition.specs.Json.{Json};
 ghost use Rattle.definition.specs.JsonAtLaws.{Stands, Finds};
 ghost use Rattle.definition.specs.Exports.{Context, orDot};
-ghost use Rattle.definition.specs.Ask.{Listing, go, stop, asked, opened};
-ghost use Rattle.definition.specs.Listing.{entryAt};
+ghost use Rattle.definition.specs.Ask.{Listing, go, stop};
 ghost use Rattle.definition.specs.ListingSteps.{part};
 ghost use Rattle.definition.specs.Settings.{Settings, textsOf, settingsOf};
 ghost use Rattle.definition.specs.Manifest.{ifText, field, firstField, resolvedTo, manifestView, view};
 ghost use Rattle.definition.specs.Called.{seenBy};
-ghost use Rattle.definition.specs.Walk.{perhaps, forEach, given, never, sound, mainPath, nearest, own as ownIn, tryFile, tryExtension, LOAD-AS-FILE, tryIndex, LOAD-INDEX, loadMain, LOAD-AS-DIRECTORY, RESOLVE-ESM-MATCH, byExports, LOAD-PACKAGE-EXPORTS, inScope, LOAD-PACKAGE-SELF, goOn, asFileOrDirectory, inModules, inDirectory, LOAD-NODE-MODULES, lookup};
-ghost use Rattle.listing.specs.Meaning.{seen};
+ghost use Rattle.definition.specs.Walk.{perhaps, forEach, given, never, sound, mainPath, nearest, own as ownIn, loadMain, LOAD-AS-DIRECTORY, RESOLVE-ESM-MATCH, byExports, LOAD-PACKAGE-EXPORTS, inScope, LOAD-PACKAGE-SELF, goOn, asFileOrDirectory, inModules, inDirectory, LOAD-NODE-MODULES, lookup};
 ghost use Rattle.path.specs.Meaning.{pathOf};
 ghost use Rattle.package_json.specs.Scanned.{faultOf};
 ghost use Rattle.package_json.specs.Cursors.{placed, textOf};
 ghost use Rattle.exports.specs.Keys.{matchOf};
 ghost use Rattle.exports.specs.Answers.{outcomeIn};
 ghost use Rattle.exports.specs.Chosen.{keyText};
-ghost use Rattle.resolver.specs.Tape.{most, packed, put, Done};
-ghost use Rattle.resolver.specs.Meaning.{tapeOf, consultOf, stepOf, place, numbers, tryPath, manifestFound, manifestIn, readOf, Sees, seek, soughtOf, loadMainFile};
+ghost use Rattle.files.specs.Tape.{Done};
+ghost use Rattle.files.specs.Meaning.{tapeOf, stepOf, place, numbers, Sees};
 ghost use Rattle.resolver.specs.Routines.{judged, scopeOf, ownOf, Held, Fits, mainField, ifDirectory, Finishes, foundOf, matchExports, goingOf, directoryOrFile, Refused};
-
-// How a lookup ended: the number of document 01, and the lengths of its texts, which stand in the result text.
-pub struct Ending {
-    pub number: u8,
-    pub first: usize,
-    pub second: usize,
-    pub third: usize,
-}
-
-// How a routine comes back: the lookup goes on, or it has ended.
-pub enum Way {
-    Next,
-    Stopped(Ending),
-}
-
-// How many consults were made, and how many bytes their paths have.
-pub struct Mark {
-    pub count: usize,
-    pub size: usize,
-}
-
-pub struct Out {
-    pub way: Way,
-    pub mark: Mark,
-}
-
-// A path's state, and the list with the question in it.
-pub struct Asked {
-    pub state: u8,
-    pub mark: Mark,
-}
-
-// The sum, but at most 2 ^ 32: no lookup makes so many consults.
-fn more(n: usize, k: usize) -> usize
-    ensures { λ r. ⌜ r ≡ min (n + k) most ⌝ }
-{
-    if n >= 4294967296 {
-        return 4294967296;
-    }
-    if k > 4294967296 - n {
-        return 4294967296;
-    }
-    n + k
-}
-
-// A path's length and state in one number, where the list numbers reach that far.
-fn note_number(nums: &mut [u32], count: usize, n: usize, state: u8)
-    ensures { λ _. ⌜ now (nums .exit) ≡ set (now (nums .entry)) (count + 2) (packed n state) ⌝ }
-{
-    if count >= nums.len() {
-        return;
-    }
-    if nums.len() - count > 2 {
-        nums[count + 2] = ((n % 65536) as u32) + 65536 * (state as u32);
-    }
-}
-// One consult more in the list.
-fn note(path: &[u8], state: u8, nums: &mut [u32], text: &mut [u8], m: Mark) -> Mark
-    ensures { λ r. ⌜ ((result : List ℕ) → tapeOf result (now (nums .exit)) (now (text .exit)) r ≡ put (tapeOf result (now (nums .entry)) (now (text .entry)) m) (consultOf (now (path .entry)) state)) ⌝ }
-{
-    note_number(nums, m.count, path.len(), state);
-    text::copy_at(text, m.size, path);
-    Mark {
-        count: more(m.count, 1),
-        size: more(m.size, path.len()),
-    }
-}
-
-// The state of a path, as 01 numbers it: one consult.
-fn consult(l: &[u8], path: &[u8], nums: &mut [u32], text: &mut [u8], m: Mark) -> Asked
-    ensures state { λ r. ⌜ r .state ≡ asked (entryAt (now (l .entry)) (now (path .entry))) ⌝ }
-    ensures list { λ r. ⌜ ((result : List ℕ) → tapeOf result (now (nums .exit)) (now (text .exit)) (r .mark) ≡ put (tapeOf result (now (nums .entry)) (now (text .entry)) m) (consultOf (now (path .entry)) (r .state))) ⌝ }
-{
-    let found = listing::search(l, path);
-    let state = state_of(found);
-    Asked {
-        state,
-        mark: note(path, state, nums, text, m),
-    }
-}
-
-fn state_of(found: listing::Found) -> u8
-    ensures { λ r. ⌜ ((l : List ℕ) → r ≡ asked (seen l found)) ⌝ }
-{
-    match found {
-        listing::Found::Absent => 0,
-        listing::Found::Directory => 1,
-        listing::Found::File { start: _, end: _ } => 2,
-    }
-}
-
-// Three texts one behind the other, as far as the result text reaches.
-fn put_texts(result: &mut [u8], a: &[u8], b: &[u8], c: &[u8])
-    ensures { λ _. ⌜ now (result .exit) ≡ overwrite 0 (now (a .entry) ++ (now (b .entry) ++ now (c .entry))) (now (result .entry)) ⌝ }
-{
-    text::copy_at(result, 0, a);
-    let n = a.len();
-    if n >= result.len() {
-        return;
-    }
-    text::copy_at(result, n, b);
-    let k = b.len();
-    if k >= result.len() - n {
-        return;
-    }
-    text::copy_at(result, n + k, c);
-}
-
-// The end of a lookup: its texts go to the result text.
-fn finish(number: u8, a: &[u8], b: &[u8], c: &[u8], result: &mut [u8]) -> Ending
-    ensures ending { λ r. ⌜ r ≡ numbers number (now (a .entry)) (now (b .entry)) (now (c .entry)) ⌝ }
-    ensures texts { λ r. ⌜ now (result .exit) ≡ overwrite 0 (now (a .entry) ++ (now (b .entry) ++ now (c .entry))) (now (result .entry)) ⌝ }
-{
-    put_texts(result, a, b, c);
-    Ending {
-        number,
-        first: a.len(),
-        second: b.len(),
-        third: c.len(),
-    }
-}
-
-// LOAD_AS_FILE, step 1: a file is found.
-fn try_file<'a>(
-    l: &[u8],
-    path: &[u8],
-    query: &'a [u8],
-    fragment: &'a [u8],
-    result: &mut [u8],
-    nums: &mut [u32],
-    text: &mut [u8],
-    m: Mark,
-) -> Out
-    ensures { λ r. ⌜ ((G : Settings) → Done (seenBy G (now (l .entry))) (tryFile G (place (now (path .entry)) (now (query .entry)) (now (fragment .entry)))) (tapeOf (now (result .entry)) (now (nums .entry)) (now (text .entry)) m) (tapeOf (now (result .exit)) (now (nums .exit)) (now (text .exit)) (r .mark)) (stepOf (r .way))) ⌝ }
-{
-    let asked = consult(l, path, nums, text, m);
-    let mark = asked.mark;
-    if asked.state != 2 {
-        return Out {
-            way: Way::Next,
-            mark,
-        };
-    }
-    Out {
-        way: Way::Stopped(finish(0, path, query, fragment, result)),
-        mark,
-    }
-}
-
-// The end of a lookup by a refusal, which has no text.
-fn refuse(number: u8) -> Ending
-    ensures { λ r. ⌜ r ≡ numbers number [] [] [] ⌝ }
-{
-    Ending {
-        number,
-        first: 0,
-        second: 0,
-        third: 0,
-    }
-}
-
-// A path that was built is tried as a file; an over-long one is refused as 42.
-fn try_path<'a>(
-    l: &[u8],
-    p: PathBuf,
-    query: &'a [u8],
-    fragment: &'a [u8],
-    result: &mut [u8],
-    nums: &mut [u32],
-    text: &mut [u8],
-    m: Mark,
-) -> Out
-    ensures { λ r. ⌜ ((G : Settings) → Done (seenBy G (now (l .entry))) (tryPath G (pathOf p) (now (query .entry)) (now (fragment .entry))) (tapeOf (now (result .entry)) (now (nums .entry)) (now (text .entry)) m) (tapeOf (now (result .exit)) (now (nums .exit)) (now (text .exit)) (r .mark)) (stepOf (r .way))) ⌝ }
-{
-    let n = p.len;
-    if n > 2048 {
-        return Out {
-            way: Way::Stopped(refuse(42)),
-            mark: m,
-        };
-    }
-    try_file(
-        l,
-        path::first(&p.bytes, n),
-        query,
-        fragment,
-        result,
-        nums,
-        text,
-        m,
-    )
-}
-
-// What a directory holds as package.json: no file, or a file, whose contents lie there.
-pub enum Manifest {
-    Missing,
-    File { start: usize, end: usize },
-    OverLong,
-}
-
-// With the list in which the question stands.
-pub struct Read {
-    pub manifest: Manifest,
-    pub mark: Mark,
-}
-
-fn manifest_of(found: listing::Found) -> Manifest
-    ensures { λ r. ⌜ r ≡ manifestFound found ⌝ }
-{
-    match found {
-        listing::Found::Absent => Manifest::Missing,
-        listing::Found::Directory => Manifest::Missing,
-        listing::Found::File { start, end } => Manifest::File { start, end },
-    }
-}
-
-// The state of a manifest: its contents are read.
-fn opened_state(found: listing::Found) -> u8
-    ensures { λ r. ⌜ ((l : List ℕ) → r ≡ opened (seen l found)) ⌝ }
-{
-    match found {
-        listing::Found::Absent => 0,
-        listing::Found::Directory => 1,
-        listing::Found::File { start: _, end: _ } => 3,
-    }
-}
-
-// package.json in one directory: one consult, unless its path is over-long.
-fn read_manifest(l: &[u8], dir: &[u8], nums: &mut [u32], text: &mut [u8], m: Mark) -> Read
-    ensures { λ r. ⌜ ((G : Settings) (result : List ℕ) → Done (seenBy G (now (l .entry))) (manifestIn (now (dir .entry))) (tapeOf result (now (nums .entry)) (now (text .entry)) m) (tapeOf result (now (nums .exit)) (now (text .exit)) (r .mark)) (readOf G (now (l .entry)) (r .manifest))) ⌝ }
-{
-    let p = PathBuf::from(dir).push_manifest();
-    let n = p.len;
-    if n > 2048 {
-        return Read {
-            manifest: Manifest::OverLong,
-            mark: m,
-        };
-    }
-    let path = path::first(&p.bytes, n);
-    let found = listing::search(l, path);
-    Read {
-        manifest: manifest_of(found),
-        mark: note(path, opened_state(found), nums, text, m),
-    }
-}
-
-// The nearest manifest: the length of its directory within the path, and where its contents lie.
-pub enum Near {
-    Nowhere,
-    At {
-        dir: usize,
-        start: usize,
-        end: usize,
-    },
-    TooLong,
-}
-
-pub struct Nearest {
-    pub near: Near,
-    pub mark: Mark,
-}
-
-// package.json in the directory, then in each above it: the first that is a file.
-fn find_package_json(l: &[u8], dir: &[u8], nums: &mut [u32], text: &mut [u8], m: Mark) -> Nearest
-    ensures { λ r. ⌜ ((G : Settings) (result : List ℕ) → Done (seenBy G (now (l .entry))) (seek (dirs (now (dir .entry)))) (tapeOf result (now (nums .entry)) (now (text .entry)) m) (tapeOf result (now (nums .exit)) (now (text .exit)) (r .mark)) (soughtOf G (now (l .entry)) (now (dir .entry)) (r .near))) ⌝ }
-{
-    let mut mark = m;
-    let mut n = dir.len();
-    let mut above = depth(dir);
-    loop {
-        let d = path::first(dir, n);
-        let read = read_manifest(l, d, nums, text, mark);
-        mark = read.mark;
-        let manifest = read.manifest;
-        match manifest {
-            Manifest::Missing => {}
-            Manifest::File { start, end } => {
-                return Nearest {
-                    near: Near::At { dir: n, start, end },
-                    mark,
-                };
-            }
-            Manifest::OverLong => {
-                return Nearest {
-                    near: Near::TooLong,
-                    mark,
-                };
-            }
-        }
-        if above == 0 {
-            return Nearest {
-                near: Near::Nowhere,
-                mark,
-            };
-        }
-        n = path::parent(d).len();
-        above -= 1;
-    }
-}
-
-// How many directories are above a path.
-fn depth(p: &[u8]) -> usize
-    ensures { λ r. ⌜ r ≡ depth (now (p .entry)) ⌝ }
-{
-    if text::equal(p, b"/") {
-        return 0;
-    }
-    text::count(p, b'/')
-}
-
-// LOAD_AS_FILE, step 2: the path with the i-th extension behind it.
-fn try_extension<'a>(
-    l: &[u8],
-    s: &[u8],
-    i: usize,
-    path: &[u8],
-    query: &'a [u8],
-    fragment: &'a [u8],
-    result: &mut [u8],
-    nums: &mut [u32],
-    text: &mut [u8],
-    m: Mark,
-) -> Out
-    ensures { λ r. ⌜ ((G : Settings) → Done (seenBy G (now (l .entry))) (tryExtension G (place (now (path .entry)) (now (query .entry)) (now (fragment .entry))) (getD (textsOf (now (s .entry)) 1) i [])) (tapeOf (now (result .entry)) (now (nums .entry)) (now (text .entry)) m) (tapeOf (now (result .exit)) (now (nums .exit)) (now (text .exit)) (r .mark)) (stepOf (r .way))) ⌝ }
-{
-    let p = PathBuf::from(path).append(settings::text(s, Kind::Extensions, i));
-    try_path(l, p, query, fragment, result, nums, text, m)
-}
-
-// LOAD_AS_FILE(X)
-fn load_as_file<'a>(
-    l: &[u8],
-    s: &[u8],
-    path: &[u8],
-    query: &'a [u8],
-    fragment: &'a [u8],
-    result: &mut [u8],
-    nums: &mut [u32],
-    text: &mut [u8],
-    m: Mark,
-) -> Out
-    ensures { λ r. ⌜ Done (seenBy (settingsOf (now (s .entry))) (now (l .entry))) (LOAD-AS-FILE (settingsOf (now (s .entry))) (place (now (path .entry)) (now (query .entry)) (now (fragment .entry)))) (tapeOf (now (result .entry)) (now (nums .entry)) (now (text .entry)) m) (tapeOf (now (result .exit)) (now (nums .exit)) (now (text .exit)) (r .mark)) (stepOf (r .way)) ⌝ }
-{
-    let first = try_file(l, path, query, fragment, result, nums, text, m);
-    let way = first.way;
-    let Way::Next = way else {
-        return first;
-    };
-    let mut mark = first.mark;
-    let n = settings::count(s, Kind::Extensions);
-    let mut i = 0;
-    while i < n {
-        let out = try_extension(l, s, i, path, query, fragment, result, nums, text, mark);
-        let way = out.way;
-        let Way::Next = way else {
-            return out;
-        };
-        mark = out.mark;
-        i += 1;
-    }
-    Out {
-        way: Way::Next,
-        mark,
-    }
-}
-
-// LOAD_INDEX, one main file of the settings with the i-th extension.
-fn try_index<'a>(
-    l: &[u8],
-    s: &[u8],
-    file: &[u8],
-    i: usize,
-    path: &[u8],
-    query: &'a [u8],
-    fragment: &'a [u8],
-    result: &mut [u8],
-    nums: &mut [u32],
-    text: &mut [u8],
-    m: Mark,
-) -> Out
-    ensures { λ r. ⌜ ((G : Settings) → Done (seenBy G (now (l .entry))) (tryIndex G (place (now (path .entry)) (now (query .entry)) (now (fragment .entry))) (now (file .entry)) (getD (textsOf (now (s .entry)) 1) i [])) (tapeOf (now (result .entry)) (now (nums .entry)) (now (text .entry)) m) (tapeOf (now (result .exit)) (now (nums .exit)) (now (text .exit)) (r .mark)) (stepOf (r .way))) ⌝ }
-{
-    let p = PathBuf::from(path).append_main_file(file, settings::text(s, Kind::Extensions, i));
-    try_path(l, p, query, fragment, result, nums, text, m)
-}
-
-// LOAD_INDEX, one main file with each extension.
-fn load_main_file<'a>(
-    l: &[u8],
-    s: &[u8],
-    file: &[u8],
-    path: &[u8],
-    query: &'a [u8],
-    fragment: &'a [u8],
-    result: &mut [u8],
-    nums: &mut [u32],
-    text: &mut [u8],
-    m: Mark,
-) -> Out
-    ensures { λ r. ⌜ Done (seenBy (settingsOf (now (s .entry))) (now (l .entry))) (loadMainFile (settingsOf (now (s .entry))) (place (now (path .entry)) (now (query .entry)) (now (fragment .entry))) (now (file .entry))) (tapeOf (now (result .entry)) (now (nums .entry)) (now (text .entry)) m) (tapeOf (now (result .exit)) (now (nums .exit)) (now (text .exit)) (r .mark)) (stepOf (r .way)) ⌝ }
-{
-    let mut mark = m;
-    let n = settings::count(s, Kind::Extensions);
-    let mut i = 0;
-    while i < n {
-        let out = try_index(
-            l,
-            s,
-            file,
-            i,
-            path,
-            query,
-            fragment,
-            result,
-            nums,
-            text,
-            mark,
-        );
-        let way = out.way;
-        let Way::Next = way else {
-            return out;
-        };
-        mark = out.mark;
-        i += 1;
-    }
-    Out {
-        way: Way::Next,
-        mark,
-    }
-}
-
-// LOAD_INDEX(X)
-fn load_index<'a>(
-    l: &[u8],
-    s: &[u8],
-    path: &[u8],
-    query: &'a [u8],
-    fragment: &'a [u8],
-    result: &mut [u8],
-    nums: &mut [u32],
-    text: &mut [u8],
-    m: Mark,
-) -> Out
-    ensures { λ r. ⌜ Done (seenBy (settingsOf (now (s .entry))) (now (l .entry))) (LOAD-INDEX (settingsOf (now (s .entry))) (place (now (path .entry)) (now (query .entry)) (now (fragment .entry)))) (tapeOf (now (result .entry)) (now (nums .entry)) (now (text .entry)) m) (tapeOf (now (result .exit)) (now (nums .exit)) (now (text .exit)) (r .mark)) (stepOf (r .way)) ⌝ }
-{
-    let mut mark = m;
-    let n = settings::count(s, Kind::MainFiles);
-    let mut i = 0;
-    while i < n {
-        let file = settings::text(s, Kind::MainFiles, i);
-        let out = load_main_file(l, s, file, path, query, fragment, result, nums, text, mark);
-        let way = out.way;
-        let Way::Next = way else {
-            return out;
-        };
-        mark = out.mark;
-        i += 1;
-    }
-    Out {
-        way: Way::Next,
-        mark,
-    }
-}
 
 // The end of a lookup by an error that names a manifest only.
 fn manifest_ending(number: u8, dir: &[u8], result: &mut [u8]) -> Ending
@@ -508,7 +46,7 @@ fn manifest_ending(number: u8, dir: &[u8], result: &mut [u8]) -> Ending
 {
     let p = PathBuf::from(dir).push_manifest();
     let n = p.len;
-    finish(number, path::first(&p.bytes, n), b"", b"", result)
+    files::finish(number, path::first(&p.bytes, n), b"", b"", result)
 }
 
 // A fault of a manifest ends the lookup; of one that is no JSON the path is told.
@@ -518,8 +56,8 @@ fn fault_ending(f: package_json::Fault, dir: &[u8], result: &mut [u8]) -> Ending
 {
     match f {
         package_json::Fault::Malformed => manifest_ending(7, dir, result),
-        package_json::Fault::Beyond => refuse(40),
-        package_json::Fault::Twice => refuse(41),
+        package_json::Fault::Beyond => files::refuse(40),
+        package_json::Fault::Twice => files::refuse(41),
     }
 }
 
@@ -586,7 +124,7 @@ fn scope(
     ensures done { λ r. ⌜ ((G : Settings) → Done (seenBy G (now (l .entry))) (nearest G (dirs (now (dir .entry)))) (tapeOf (now (result .entry)) (now (nums .entry)) (now (text .entry)) m) (tapeOf (now (result .exit)) (now (nums .exit)) (now (text .exit)) (r .mark)) (scopeOf G (now (l .entry)) (now (dir .entry)) (r .way) (r .package))) ⌝ }
     ensures held { λ r. ⌜ Held (now (l .entry)) (r .package) ⌝ }
 {
-    let nearest = find_package_json(l, dir, nums, text, m);
+    let nearest = files::find_package_json(l, dir, nums, text, m);
     let mark = nearest.mark;
     let near = nearest.near;
     match near {
@@ -597,7 +135,7 @@ fn scope(
         },
         Near::At { dir: n, start, end } => judge(l, dir, n, start, end, result, mark),
         Near::TooLong => Scoped {
-            way: Way::Stopped(refuse(42)),
+            way: Way::Stopped(files::refuse(42)),
             package: Package::Nowhere,
             mark,
         },
@@ -684,17 +222,17 @@ fn load_main<'a>(
     let n = p.len;
     if n > 2048 {
         return Out {
-            way: Way::Stopped(refuse(42)),
+            way: Way::Stopped(files::refuse(42)),
             mark: m,
         };
     }
     let q = path::first(&p.bytes, n);
-    let out = load_as_file(l, s, q, query, fragment, result, nums, text, m);
+    let out = files::load_as_file(l, s, q, query, fragment, result, nums, text, m);
     let way = out.way;
     let Way::Next = way else {
         return out;
     };
-    load_index(l, s, q, query, fragment, result, nums, text, out.mark)
+    files::load_index(l, s, q, query, fragment, result, nums, text, out.mark)
 }
 
 // LOAD_AS_DIRECTORY(X), 1.a, for the i-th main field of the settings.
@@ -807,7 +345,7 @@ fn load_as_directory<'a>(
         root,
     } = package
     else {
-        return load_index(l, s, path, query, fragment, result, nums, text, mark);
+        return files::load_index(l, s, path, query, fragment, result, nums, text, mark);
     };
     let manifest = listing::contents(l, start, end);
     let out = load_main_fields(
@@ -828,7 +366,7 @@ fn load_as_directory<'a>(
     let Way::Next = way else {
         return out;
     };
-    load_index(l, s, path, query, fragment, result, nums, text, out.mark)
+    files::load_index(l, s, path, query, fragment, result, nums, text, out.mark)
 }
 
 // LOAD_AS_DIRECTORY(X) where X is a directory.
@@ -847,7 +385,7 @@ fn load_if_directory<'a>(
     requires { ⌜ 1024 ≤ length (now work) ⌝ }
     ensures { λ r. ⌜ Done (seenBy (settingsOf (now (s .entry))) (now (l .entry))) (ifDirectory (settingsOf (now (s .entry))) (place (now (path .entry)) (now (query .entry)) (now (fragment .entry)))) (tapeOf (now (result .entry)) (now (nums .entry)) (now (text .entry)) m) (tapeOf (now (result .exit)) (now (nums .exit)) (now (text .exit)) (r .mark)) (stepOf (r .way)) ⌝ }
 {
-    let asked = consult(l, path, nums, text, m);
+    let asked = files::consult(l, path, nums, text, m);
     let mark = asked.mark;
     if asked.state != 1 {
         return Out {
@@ -875,7 +413,7 @@ fn resolve_esm_match<'a>(
     requires { ⌜ 1024 ≤ length (now work) ⌝ }
     ensures { λ r. ⌜ Done (seenBy (settingsOf (now (s .entry))) (now (l .entry))) (never (RESOLVE-ESM-MATCH (settingsOf (now (s .entry))) (now (spec .entry)) (place (now (path .entry)) (now (query .entry)) (now (fragment .entry))))) (tapeOf (now (result .entry)) (now (nums .entry)) (now (text .entry)) m) (tapeOf (now (result .exit)) (now (nums .exit)) (now (text .exit)) (r .mark)) (stepOf (r .way)) ⌝ }
 {
-    let out = load_as_file(l, s, path, query, fragment, result, nums, text, m);
+    let out = files::load_as_file(l, s, path, query, fragment, result, nums, text, m);
     let way = out.way;
     let Way::Next = way else {
         return out;
@@ -898,7 +436,7 @@ fn resolve_esm_match<'a>(
     };
     let mark = out.mark;
     Out {
-        way: Way::Stopped(finish(1, spec, b"", b"", result)),
+        way: Way::Stopped(files::finish(1, spec, b"", b"", result)),
         mark,
     }
 }
@@ -936,12 +474,12 @@ fn invalid_target(
     let n = p.len;
     let manifest = path::first(&p.bytes, n);
     match key {
-        Key::Dot => finish(3, target, b".", manifest, result),
-        Key::Subpath => finish(3, target, subpath, manifest, result),
+        Key::Dot => files::finish(3, target, b".", manifest, result),
+        Key::Subpath => files::finish(3, target, subpath, manifest, result),
         Key::At(i) => {
             let t = package_json::read_text(m, i, work);
             let name = package_json::text_at(m, work, t);
-            finish(3, target, name, manifest, result)
+            files::finish(3, target, name, manifest, result)
         }
     }
 }
@@ -959,12 +497,12 @@ fn key_not_exported(
     ensures { λ r. ⌜ Finishes 4 (keyText (now (m .entry)) (now (subpath .entry)) key) (now (dir .entry)) [] r (now (result .entry)) (now (result .exit)) ⌝ }
 {
     match key {
-        Key::Dot => finish(4, b".", dir, b"", result),
-        Key::Subpath => finish(4, subpath, dir, b"", result),
+        Key::Dot => files::finish(4, b".", dir, b"", result),
+        Key::Subpath => files::finish(4, subpath, dir, b"", result),
         Key::At(i) => {
             let t = package_json::read_text(m, i, work);
             let name = package_json::text_at(m, work, t);
-            finish(4, name, dir, b"", result)
+            files::finish(4, name, dir, b"", result)
         }
     }
 }
@@ -974,8 +512,14 @@ fn match_not_exported(subpath: &[u8], matched: Match, dir: &[u8], result: &mut [
     ensures { λ r. ⌜ Finishes 4 (orDot (matchOf (now (subpath .entry)) matched)) (now (dir .entry)) [] r (now (result .entry)) (now (result .exit)) ⌝ }
 {
     match matched {
-        Match::Part { start, len } => finish(4, text::part(subpath, start, len), dir, b"", result),
-        Match::Nothing => finish(4, b".", dir, b"", result),
+        Match::Part { start, len } => files::finish(
+            4,
+            text::part(subpath, start, len),
+            dir,
+            b"",
+            result,
+        ),
+        Match::Nothing => files::finish(4, b".", dir, b"", result),
     }
 }
 
@@ -996,8 +540,8 @@ fn exports_ending(
 {
     match outcome {
         Outcome::Found => Way::Next,
-        Outcome::Nothing => Way::Stopped(finish(4, subpath, dir, b"", result)),
-        Outcome::Empty => Way::Stopped(finish(2, target, b"", b"", result)),
+        Outcome::Nothing => Way::Stopped(files::finish(4, subpath, dir, b"", result)),
+        Outcome::Empty => Way::Stopped(files::finish(2, target, b"", b"", result)),
         Outcome::InvalidTarget => {
             Way::Stopped(invalid_target(m, target, subpath, key, dir, result, work))
         }
@@ -1007,7 +551,7 @@ fn exports_ending(
         Outcome::NotExported => Way::Stopped(key_not_exported(m, subpath, key, dir, result, work)),
         Outcome::ConfigMixed => Way::Stopped(manifest_ending(5, dir, result)),
         Outcome::ConfigDirectory => Way::Stopped(manifest_ending(6, dir, result)),
-        Outcome::OverLong => Way::Stopped(refuse(42)),
+        Outcome::OverLong => Way::Stopped(files::refuse(42)),
     }
 }
 
@@ -1297,7 +841,7 @@ fn without_directory(
             mark: m,
         };
     }
-    let asked = consult(l, path::parent(dir), nums, text, m);
+    let asked = files::consult(l, path::parent(dir), nums, text, m);
     let mark = asked.mark;
     Went {
         way: Way::Next,
@@ -1351,11 +895,11 @@ fn load_directory_or_file(
     requires { ⌜ 1024 ≤ length (now work) ⌝ }
     ensures { λ r. ⌜ Done (seenBy (settingsOf (now (s .entry))) (now (l .entry))) (directoryOrFile (settingsOf (now (s .entry))) (now (path .entry))) (tapeOf (now (result .entry)) (now (nums .entry)) (now (text .entry)) m) (tapeOf (now (result .exit)) (now (nums .exit)) (now (text .exit)) (r .mark)) (stepOf (r .way)) ⌝ }
 {
-    let asked = consult(l, path, nums, text, m);
+    let asked = files::consult(l, path, nums, text, m);
     if asked.state == 1 {
         return load_as_directory(l, s, path, b"", b"", result, nums, text, asked.mark, work);
     }
-    load_as_file(l, s, path, b"", b"", result, nums, text, asked.mark)
+    files::load_as_file(l, s, path, b"", b"", result, nums, text, asked.mark)
 }
 
 // LOAD_NODE_MODULES(X, START), 2.b: a file at once only for a name with a subpath that does not end in "/".
@@ -1387,7 +931,7 @@ fn load_as_file_or_directory(
     let n = p.len;
     if n > 2048 {
         return Out {
-            way: Way::Stopped(refuse(42)),
+            way: Way::Stopped(files::refuse(42)),
             mark: m,
         };
     }
@@ -1395,7 +939,7 @@ fn load_as_file_or_directory(
     if !file_first(spec, name) {
         return load_directory_or_file(l, s, path, result, nums, text, m, work);
     }
-    let out = load_as_file(l, s, path, b"", b"", result, nums, text, m);
+    let out = files::load_as_file(l, s, path, b"", b"", result, nums, text, m);
     let way = out.way;
     let Way::Next = way else {
         return out;
@@ -1424,12 +968,12 @@ fn in_modules(
     let n = p.len;
     if n > 2048 {
         return Out {
-            way: Way::Stopped(refuse(42)),
+            way: Way::Stopped(files::refuse(42)),
             mark: m,
         };
     }
     let dir = path::first(&p.bytes, n);
-    let asked = consult(l, dir, nums, text, m);
+    let asked = files::consult(l, dir, nums, text, m);
     let is_dir = asked.state == 1;
     let went = go_on(
         l,
@@ -1476,7 +1020,7 @@ fn in_directory(
     requires { ⌜ (1024 ≤ length (now work)) × (length (now sub) ≤ 2048) ⌝ }
     ensures { λ r. ⌜ Done (seenBy (settingsOf (now (s .entry))) (now (l .entry))) (inDirectory (settingsOf (now (s .entry))) (now (spec .entry)) (now (name .entry)) (now (sub .entry)) (now (dir .entry))) (tapeOf (now (result .entry)) (now (nums .entry)) (now (text .entry)) m) (tapeOf (now (result .exit)) (now (nums .exit)) (now (text .exit)) (r .mark)) (stepOf (r .way)) ⌝ }
 {
-    let asked = consult(l, dir, nums, text, m);
+    let asked = files::consult(l, dir, nums, text, m);
     let mark = asked.mark;
     if asked.state != 1 {
         return Out {
@@ -1488,12 +1032,12 @@ fn in_directory(
     let n = p.len;
     if n > 2048 {
         return Out {
-            way: Way::Stopped(refuse(42)),
+            way: Way::Stopped(files::refuse(42)),
             mark,
         };
     }
     let modules = path::first(&p.bytes, n);
-    let asked = consult(l, modules, nums, text, mark);
+    let asked = files::consult(l, modules, nums, text, mark);
     let mark = asked.mark;
     if asked.state != 1 {
         return Out {
@@ -1543,7 +1087,7 @@ fn load_node_modules(
             };
         }
         let mut n = start.len();
-        let mut left = depth(start) + 1;
+        let mut left = files::depth(start) + 1;
         while left > 0 {
             let dir = path::first(start, n);
             let out = in_directory(l, s, spec, name, sub, dir, result, nums, text, mark, work);
@@ -1641,7 +1185,7 @@ fn walk(
         }
     }
     Finished {
-        ending: finish(1, spec, b"", b"", result),
+        ending: files::finish(1, spec, b"", b"", result),
         mark,
     }
 }
@@ -1665,13 +1209,13 @@ pub fn load_package_self_or_node_modules(
 {
     if work.len() < 1024 {
         return Finished {
-            ending: refuse(25),
+            ending: files::refuse(25),
             mark: Mark { count: 0, size: 0 },
         };
     }
     if spec.len() > 512 {
         return Finished {
-            ending: refuse(22),
+            ending: files::refuse(22),
             mark: Mark { count: 0, size: 0 },
         };
     }

@@ -1,20 +1,20 @@
 use Rattle.definition.specs.Exports.{Empty, InvalidPackageTarget, PackagePathNotExported, InvalidPackageConfig, InvalidPackageConfigDirectory, failureNumber, failureTexts, pathNotExported}
 use Rattle.definition.specs.Manifest.{pathTooLong, refusalNumber, resolvedTo}
 use Rattle.definition.specs.Walk.{given}
-use Rattle.resolver.specs.Tape.{done-ret}
-use Rattle.resolver.proofs.Steps.{done-refuse, ends-failed}
+use Rattle.files.specs.Tape.{done-ret}
+use Rattle.files.proofs.Steps.{done-refuse, ends-failed}
 use Rattle.resolver.proofs.Matches.{done-failed}
 use borrow.Author.Needs.{needs}
 use Rattle.resolver.proofs.exports_ending.Statement.{statement}
 use Rattle.resolver.proofs.exports_ending.Tie as tie
 use Rattle.resolver.proofs.exports_ending.Reads as reads
 use Rattle.resolver.proofs.exports_ending.Lts as lts
-use Rattle.resolver.proofs.finish.Reads as finish-reads
+use Rattle.files.proofs.finish.Reads as finish-reads
 use Rattle.resolver.proofs.invalid_target.Reads as invalid-target-reads
 use Rattle.resolver.proofs.key_not_exported.Reads as key-not-exported-reads
 use Rattle.resolver.proofs.manifest_ending.Reads as manifest-ending-reads
 use Rattle.resolver.proofs.match_not_exported.Reads as match-not-exported-reads
-use Rattle.resolver.proofs.refuse.Reads as refuse-reads
+use Rattle.files.proofs.refuse.Reads as refuse-reads
 
 pub exports-ending-spec : {M : Type 1} → statement M
 unfolding given resolvedTo pathNotExported failureNumber failureTexts refusalNumber

@@ -6,7 +6,7 @@ use native.Mathlib.Omega.{arith}
 use lib.ListN.{length, drop}
 use Rattle.definition.specs.JsonAt.{getAt}
 use Rattle.definition.specs.Settings.{textsOf}
-use Rattle.resolver.proofs.Files.{left-texts, none-left}
+use Rattle.files.proofs.Files.{left-texts, none-left}
 use Rattle.resolver.proofs.Matches.{Passed, passed-end, passed-more, passed-here}
 use borrow.Author.Needs.{needs}
 use Rattle.resolver.proofs.exports_field.Statement.{statement}

@@ -9,10 +9,10 @@ use Rattle.resolver.proofs.in_modules.Reads as reads
 use Rattle.resolver.proofs.in_modules.Lts as lts
 use Rattle.path.proofs.first.Reads as first-reads
 use Rattle.path.proofs.normalize_with.Reads as normalize-with-reads
-use Rattle.resolver.proofs.consult.Reads as consult-reads
+use Rattle.files.proofs.consult.Reads as consult-reads
 use Rattle.resolver.proofs.go_on.Reads as go-on-reads
 use Rattle.resolver.proofs.load_as_file_or_directory.Reads as load-as-file-or-directory-reads
-use Rattle.resolver.proofs.refuse.Reads as refuse-reads
+use Rattle.files.proofs.refuse.Reads as refuse-reads
 
 pub in-modules-spec : {M : Type 1} → statement M
 in-modules-spec =

@@ -2,14 +2,14 @@ use mathlib.Core.Path.{_∙_}
 use Rattle.definition.specs.Settings.{settingsOf}
 use Rattle.definition.specs.Walk.{LOAD-AS-DIRECTORY}
 use Rattle.resolver.proofs.Manifests.{own-ended, directory-bare, directory-manifest}
-use Rattle.resolver.proofs.Ways.{way-passed, way-onward}
+use Rattle.files.proofs.Ways.{way-passed, way-onward}
 use borrow.Author.Needs.{needs}
 use Rattle.resolver.proofs.load_as_directory.Statement.{statement}
 use Rattle.resolver.proofs.load_as_directory.Tie as tie
 use Rattle.resolver.proofs.load_as_directory.Reads as reads
 use Rattle.resolver.proofs.load_as_directory.Lts as lts
 use Rattle.listing.proofs.contents.Reads as contents-reads
-use Rattle.resolver.proofs.load_index.Reads as load-index-reads
+use Rattle.files.proofs.load_index.Reads as load-index-reads
 use Rattle.resolver.proofs.load_main_fields.Reads as load-main-fields-reads
 use Rattle.resolver.proofs.own.Reads as own-reads
 

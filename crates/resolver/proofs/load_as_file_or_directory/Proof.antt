@@ -10,9 +10,9 @@ use Rattle.resolver.proofs.load_as_file_or_directory.Lts as lts
 use Rattle.path.proofs.first.Reads as first-reads
 use Rattle.path.proofs.normalize_with.Reads as normalize-with-reads
 use Rattle.resolver.proofs.file_first.Reads as file-first-reads
-use Rattle.resolver.proofs.load_as_file.Reads as load-as-file-reads
+use Rattle.files.proofs.load_as_file.Reads as load-as-file-reads
 use Rattle.resolver.proofs.load_directory_or_file.Reads as load-directory-or-file-reads
-use Rattle.resolver.proofs.refuse.Reads as refuse-reads
+use Rattle.files.proofs.refuse.Reads as refuse-reads
 
 pub load-as-file-or-directory-spec : {M : Type 1} → statement M
 unfolding bare

@@ -1,14 +1,14 @@
 use Rattle.definition.specs.Walk.{bare, asDirectory}
 use Rattle.resolver.specs.Routines.{directoryOrFile}
-use Rattle.resolver.proofs.Steps.{is-dir, no-dir}
+use Rattle.files.proofs.Steps.{is-dir, no-dir}
 use borrow.Author.Needs.{needs}
 use Rattle.resolver.proofs.load_directory_or_file.Statement.{statement}
 use Rattle.resolver.proofs.load_directory_or_file.Tie as tie
 use Rattle.resolver.proofs.load_directory_or_file.Reads as reads
 use Rattle.resolver.proofs.load_directory_or_file.Lts as lts
-use Rattle.resolver.proofs.consult.Reads as consult-reads
+use Rattle.files.proofs.consult.Reads as consult-reads
 use Rattle.resolver.proofs.load_as_directory.Reads as load-as-directory-reads
-use Rattle.resolver.proofs.load_as_file.Reads as load-as-file-reads
+use Rattle.files.proofs.load_as_file.Reads as load-as-file-reads
 
 pub load-directory-or-file-spec : {M : Type 1} → statement M
 unfolding directoryOrFile asDirectory bare

@@ -1,13 +1,13 @@
 use Rattle.definition.specs.Walk.{when}
 use Rattle.resolver.specs.Routines.{ifDirectory}
-use Rattle.resolver.specs.Tape.{done-ret}
-use Rattle.resolver.proofs.Steps.{is-dir, no-dir}
+use Rattle.files.specs.Tape.{done-ret}
+use Rattle.files.proofs.Steps.{is-dir, no-dir}
 use borrow.Author.Needs.{needs}
 use Rattle.resolver.proofs.load_if_directory.Statement.{statement}
 use Rattle.resolver.proofs.load_if_directory.Tie as tie
 use Rattle.resolver.proofs.load_if_directory.Reads as reads
 use Rattle.resolver.proofs.load_if_directory.Lts as lts
-use Rattle.resolver.proofs.consult.Reads as consult-reads
+use Rattle.files.proofs.consult.Reads as consult-reads
 use Rattle.resolver.proofs.load_as_directory.Reads as load-as-directory-reads
 
 pub load-if-directory-spec : {M : Type 1} → statement M

@@ -1,15 +1,15 @@
 use Rattle.resolver.proofs.Manifests.{main-long, main-fits}
-use Rattle.resolver.proofs.Ways.{way-passed, way-onward}
+use Rattle.files.proofs.Ways.{way-passed, way-onward}
 use borrow.Author.Needs.{needs}
 use Rattle.resolver.proofs.load_main.Statement.{statement}
 use Rattle.resolver.proofs.load_main.Tie as tie
 use Rattle.resolver.proofs.load_main.Reads as reads
 use Rattle.resolver.proofs.load_main.Lts as lts
 use Rattle.path.proofs.first.Reads as first-reads
-use Rattle.resolver.proofs.load_as_file.Reads as load-as-file-reads
-use Rattle.resolver.proofs.load_index.Reads as load-index-reads
+use Rattle.files.proofs.load_as_file.Reads as load-as-file-reads
+use Rattle.files.proofs.load_index.Reads as load-index-reads
 use Rattle.resolver.proofs.main_path.Reads as main-path-reads
-use Rattle.resolver.proofs.refuse.Reads as refuse-reads
+use Rattle.files.proofs.refuse.Reads as refuse-reads
 
 pub load-main-spec : {M : Type 1} → statement M
 load-main-spec =

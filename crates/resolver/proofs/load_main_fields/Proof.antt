@@ -8,11 +8,11 @@ use Rattle.definition.specs.Json.{Json}
 use Rattle.definition.specs.JsonAtLaws.{Stands}
 use Rattle.definition.specs.Settings.{textsOf, settingsOf}
 use Rattle.definition.specs.Called.{seenBy}
-use Rattle.resolver.specs.Loop.{Left, left-start, left-again, left-stop, left-end}
-use Rattle.resolver.specs.Meaning.{tapeOf, place}
+use Rattle.files.specs.Loop.{Left, left-start, left-again, left-stop, left-end}
+use Rattle.files.specs.Meaning.{tapeOf, place}
 use Rattle.resolver.specs.Routines.{mainField}
-use Rattle.resolver.proofs.Files.{left-texts, none-left}
-use Rattle.resolver.proofs.Ways.{ended, onward}
+use Rattle.files.proofs.Files.{left-texts, none-left}
+use Rattle.files.proofs.Ways.{ended, onward}
 use borrow.Author.Needs.{needs}
 use Rattle.resolver.proofs.load_main_fields.Statement.{statement}
 use Rattle.resolver.proofs.load_main_fields.Tie as tie

@@ -9,7 +9,7 @@ use Rattle.resolver.proofs.manifest_ending.Lts as lts
 use Rattle.path.proofs.PathBuf.from.Reads as from-reads
 use Rattle.path.proofs.PathBuf.push_manifest.Reads as push-manifest-reads
 use Rattle.path.proofs.first.Reads as first-reads
-use Rattle.resolver.proofs.finish.Reads as finish-reads
+use Rattle.files.proofs.finish.Reads as finish-reads
 
 pub manifest-ending-spec : {M : Type 1} → statement M
 manifest-ending-spec =

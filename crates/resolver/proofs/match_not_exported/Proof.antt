@@ -4,7 +4,7 @@ use Rattle.resolver.proofs.match_not_exported.Statement.{statement}
 use Rattle.resolver.proofs.match_not_exported.Tie as tie
 use Rattle.resolver.proofs.match_not_exported.Reads as reads
 use Rattle.resolver.proofs.match_not_exported.Lts as lts
-use Rattle.resolver.proofs.finish.Reads as finish-reads
+use Rattle.files.proofs.finish.Reads as finish-reads
 use Rattle.text.proofs.part.Reads as part-reads
 
 pub match-not-exported-spec : {M : Type 1} → statement M

@@ -1,15 +1,15 @@
 use mathlib.Core.Path.{_∙_}
 use Rattle.definition.specs.Exports.{NotFound, failureNumber, failureTexts}
 use Rattle.definition.specs.Walk.{notFound}
-use Rattle.resolver.proofs.Steps.{done-finish, ends-failed}
+use Rattle.files.proofs.Steps.{done-finish, ends-failed}
 use Rattle.resolver.proofs.Matches.{match-file, match-directory, match-none}
 use borrow.Author.Needs.{needs}
 use Rattle.resolver.proofs.resolve_esm_match.Statement.{statement}
 use Rattle.resolver.proofs.resolve_esm_match.Tie as tie
 use Rattle.resolver.proofs.resolve_esm_match.Reads as reads
 use Rattle.resolver.proofs.resolve_esm_match.Lts as lts
-use Rattle.resolver.proofs.finish.Reads as finish-reads
-use Rattle.resolver.proofs.load_as_file.Reads as load-as-file-reads
+use Rattle.files.proofs.finish.Reads as finish-reads
+use Rattle.files.proofs.load_as_file.Reads as load-as-file-reads
 use Rattle.resolver.proofs.load_if_directory.Reads as load-if-directory-reads
 
 pub resolve-esm-match-spec : {M : Type 1} → statement M

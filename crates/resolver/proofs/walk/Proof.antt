@@ -3,15 +3,15 @@ use native.Mathlib.Omega.{arith}
 use Rattle.definition.specs.Ask.{_>>_}
 use Rattle.definition.specs.Exports.{NotFound, failureNumber, failureTexts}
 use Rattle.definition.specs.Walk.{notFound, lookup}
-use Rattle.resolver.specs.Tape.{done-stop}
-use Rattle.resolver.proofs.Steps.{done-finish, ends-failed}
-use Rattle.resolver.proofs.Ways.{way-onward}
+use Rattle.files.specs.Tape.{done-stop}
+use Rattle.files.proofs.Steps.{done-finish, ends-failed}
+use Rattle.files.proofs.Ways.{way-onward}
 use borrow.Author.Needs.{needs}
 use Rattle.resolver.proofs.walk.Statement.{statement}
 use Rattle.resolver.proofs.walk.Tie as tie
 use Rattle.resolver.proofs.walk.Reads as reads
 use Rattle.resolver.proofs.walk.Lts as lts
-use Rattle.resolver.proofs.finish.Reads as finish-reads
+use Rattle.files.proofs.finish.Reads as finish-reads
 use Rattle.resolver.proofs.load_climbing.Reads as load-climbing-reads
 use Rattle.resolver.proofs.load_node_modules.Reads as load-node-modules-reads
 use Rattle.resolver.proofs.load_package_self.Reads as load-package-self-reads

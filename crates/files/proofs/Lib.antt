@@ -1,0 +1,5 @@
+pub mod Laws
+pub mod Steps
+pub mod Climbs
+pub mod Files
+pub mod Ways
