@@ -1,6 +1,7 @@
 // Replays the file `vectors` of the folder it is run in, whose format docs/VECTORS.md gives: each case is a call of the lookup, which must
 // give the number and the lengths that the file holds, and leave the file's texts and list in the lent buffers, with zeros behind them. It
-// prints how many cases ran and how many of them differ, and before that a line for each of the first that differ.
+// prints how many cases ran and how many of them differ, and before that a line for each of the first that differ, counted from 0. A file
+// that cannot be read, or is damaged, gets a line on standard error instead.
 use libc::STDERR_FILENO;
 use libc::STDOUT_FILENO;
 use lookup::Answer;
@@ -151,7 +152,7 @@ fn body_len(header: &[u8]) -> usize {
     inputs + texts_len(header) + word(header, 52)
 }
 
-// Whether the file has the whole case, and the buffers of `run` have the lengths that it lends.
+// Whether the file has the whole case, and the buffers of `run` the lengths that the case lends.
 fn is_whole(rest: &[u8]) -> bool {
     if rest.len() < HEADER {
         return false;
@@ -427,7 +428,7 @@ fn say_different(case: usize, same: Same) {
     say(b"case ");
     say_number(case);
     say(b" differs:");
-    say_if(!same.answer, b" number or lengths");
+    say_if(!same.answer, b" answer");
     say_if(!same.texts, b" texts");
     say_if(!same.list, b" list");
     say_if(!same.work, b" work");
@@ -470,20 +471,28 @@ fn step(file: &[u8], mut replay: Replay) -> Replay {
     }
 }
 
+fn report_damage(cases: usize) {
+    io::write_all(
+        STDERR_FILENO,
+        b"vectors: damaged, or too long for the buffers, behind this many cases: ",
+    );
+    io::print_decimal(STDERR_FILENO, cases as u64);
+    io::write_all(STDERR_FILENO, b"\n");
+}
+
+// The counts, if the last case was read and nothing stands behind it.
 fn report(file: &[u8], replay: Replay) {
+    if replay.damaged || replay.at != file.len() {
+        report_damage(replay.cases);
+        return;
+    }
     say_number(replay.cases);
     say(b" cases, ");
     say_number(replay.differ);
     say(b" differ\n");
-    if replay.damaged {
-        io::write_all(STDERR_FILENO, b"vectors: the next case is damaged\n");
-        return;
-    }
-    if replay.at != file.len() {
-        io::write_all(STDERR_FILENO, b"vectors: bytes behind the last case\n");
-    }
 }
 
+// Each case in turn.
 fn replay_all(file: &[u8]) {
     let count = word(file, 0);
     let mut replay = Replay {
