@@ -6,8 +6,8 @@ use mathlib.Core.Option.{Option, none, some}
 use Prim.Native.Nat.{ℕ, zero, suc, _+_, _-_, _<_, _≤_, Ordering, Ordering·lt, Ordering·eq, Ordering·gt, compare, compare·zero-zero, compare·zero-suc}
 use native.Mathlib.Omega.{arith}
 use native.Mathlib.Numerals.{add-one}
-use lib.ListN.{length, drop, take, length-drop, drop-of-length-le}
-use lib.Seq.{take-all, take-append-seam, take-nil}
+use lib.ListN.{length, drop, take, length-drop}
+use lib.Seq.{take-all, take-append-seam}
 use lib.Dec.{eqb, leb, isLe, isEq}
 use borrow.Author.Tests.{eqb-true, eqb-false, leb-true, leb-false, le-leb, lt-leb, ne-eqb, eq-eqb}
 use Rattle.definition.specs.Text.{text, if_then_else_, star, equal, startsWith, endsWith, contains, before, after}
@@ -208,13 +208,3 @@ module _ (key : List ℕ) (r : ℕ) (e : r ≡ 0 + length (before star (drop 0 k
   pub trailer-part : take (length key - (r + 1)) (drop (r + 1) key) ≡ after star key
   unfolding after
   trailer-part = let n : r + 1 ≡ suc (length (before star key)) = omega arith in take-all (length key - (r + 1)) (drop (r + 1) key) (omega (arith, length-drop (r + 1) key)) ∙ rw n
-
--- a part of a text
-pub part-none : (s : List ℕ) (start len : ℕ) → length s ≤ start → [] ≡ take len (drop start s)
-part-none s start len h = rw (drop-of-length-le s h) (sym (take-nil len))
-
-pub part-rest : (s : List ℕ) (start len : ℕ) → length s - start ≤ len → take (length s - start) (drop start s) ≡ take len (drop start s)
-part-rest s start len h = take-all (length s - start) (drop start s) (omega (arith, length-drop start s)) ∙ sym (take-all len (drop start s) (omega (arith, length-drop start s)))
-
-pub part-inside : (s : List ℕ) (start len : ℕ) → take (start + len - start) (drop start s) ≡ take len (drop start s)
-part-inside s start len = let n : start + len - start ≡ len = omega arith in rw n

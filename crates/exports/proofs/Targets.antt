@@ -20,8 +20,9 @@ use Rattle.exports.specs.declared.Form.{Form}
 use Rattle.exports.specs.declared.Form.the-variants.{Plain, Starred, Folder}
 use Rattle.exports.specs.declared.Outcome.{Outcome}
 use Rattle.exports.specs.declared.Outcome.the-variants.{InvalidTarget, OverLong, ConfigDirectory}
+use Rattle.exports.specs.declared.Located.{Located}
 use Rattle.exports.specs.declared.Answer.{Answer}
-use Rattle.exports.specs.Answers.{pathText, outcomeIn, answerOf, resolved, Formed, Asked}
+use Rattle.exports.specs.Answers.{pathText, outcomeIn, locatedOf, answerOf, resolved, Formed, Asked}
 
 clash : {P : Type 0} {x : List ℕ} → built x ≡ tooLong → P
 clash e = absurd (let z : _≡_ {A = ℕ} 0 1 = cc in omega arith)
@@ -31,6 +32,9 @@ pub outcome-is : (q : Request) (r : Answer) (c : Context) (o : Outcome) → (r .
 outcome-is q r c o e =
     ap (λ x. resolved x (outcomeIn (q .packageURL) (q .key) (q .matched) (r .outcome) (pathText (r .path)))) (e .0)
     ∙ ap (λ x. resolved c (outcomeIn (q .packageURL) (q .key) (q .matched) x (pathText (r .path)))) (e .1)
+
+pub located-is : (q : Request) (r : Located) (o : Outcome) → r .outcome ≡ o → locatedOf q r ≡ outcomeIn (q .packageURL) (q .key) (q .matched) o (pathText (r .path))
+located-is q r o e = ap (λ x. outcomeIn (q .packageURL) (q .key) (q .matched) x (pathText (r .path))) e
 
 -- a text under the limit
 limited-fits : (t : List ℕ) → length t ≤ 2048 → limited t ≡ built t
@@ -103,8 +107,8 @@ module _ (q : Request) (x : List ℕ) (p : PathBuf) (e : pathOf p ≡ limited x)
   pub built-over : 2048 < p .len → overlong ≡ targetPath q (target x)
   built-over l = target-over q x (limited-long x (no-text p (limited x) e l))
 
-  pub built-text : p .len ≤ 2048 → (c : Context) (s : List ℕ) → s ≡ pathText p → resolved c (targetPath q (target s)) ≡ resolved c (targetPath q (target x))
-  built-text l c s f = ap (λ y. resolved c (targetPath q (target y))) (f ∙ limited-text x (pathText p) (text-of p (limited x) e l))
+  pub built-text : p .len ≤ 2048 → (s : List ℕ) → s ≡ pathText p → targetPath q (target s) ≡ targetPath q (target x)
+  built-text l s f = ap (λ y. targetPath q (target y)) (f ∙ limited-text x (pathText p) (text-of p (limited x) e l))
 
 pub appended : (t m : List ℕ) → andPath (limited t) (λ p. addExtension p m) ≡ limited (t ++ m)
 unfolding addExtension

@@ -20,6 +20,7 @@ use Rattle.exports.specs.declared.Form.{Form}
 use Rattle.exports.specs.declared.Form.the-variants.{Plain, Starred, Folder}
 use Rattle.exports.specs.declared.Outcome.{Outcome}
 use Rattle.exports.specs.declared.Outcome.the-variants.{Found, Nothing, Empty, InvalidTarget, NotExportedMatch, NotExported, ConfigMixed, ConfigDirectory, OverLong}
+use Rattle.exports.specs.declared.Located.{Located}
 use Rattle.exports.specs.declared.Answer.{Answer}
 use Rattle.exports.specs.Contexts.{contextOf}
 
@@ -38,6 +39,9 @@ outcomeIn url key matched NotExported t = pathNotExported key url
 outcomeIn url key matched ConfigMixed t = failed (InvalidPackageConfig (manifestOf url))
 outcomeIn url key matched ConfigDirectory t = failed (InvalidPackageConfigDirectory (manifestOf url))
 outcomeIn url key matched OverLong t = overlong
+
+abbrev pub locatedOf : Request → Located → exports.Outcome
+locatedOf q r = outcomeIn (q .packageURL) (q .key) (q .matched) (r .outcome) (pathText (r .path))
 
 abbrev pub answerOf : Request → Answer → exports.Resolved
 answerOf q r =

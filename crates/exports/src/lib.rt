@@ -20,7 +20,7 @@ ghost use Rattle.definition.specs.Exports.{PATTERN-KEY-COMPARE, isSubpathKey, s
 ghost use Rattle.definition.specs.Specifier.{parseSpecifier};
 ghost use Rattle.exports.specs.Keys.{rankOf, orderOf, matchOf};
 ghost use Rattle.exports.specs.Contexts.{contextOf};
-ghost use Rattle.exports.specs.Answers.{answerOf, resolved, Asked, isNothing, isFinal, isSome, isPassed, Resolves};
+ghost use Rattle.exports.specs.Answers.{answerOf, locatedOf, Asked, isNothing, isFinal, isSome, isPassed, Resolves};
 ghost use Rattle.exports.specs.Chosen.{aKey, joinedKeys, keysOf, BestOf, formOf, withKey, resolvedOf, fresh, dotRequest, keysOrNot, IsWhole};
 
 pub enum Order {
@@ -156,20 +156,6 @@ pub fn pattern_match(match_key: &[u8], key: &[u8]) -> Match
     }
 }
 
-// A part of a text, as far as the text reaches.
-pub fn part(s: &[u8], start: usize, len: usize) -> &[u8]
-    ensures { λ r. ⌜ now r ≡ take len (drop start (now (s .entry))) ⌝ }
-{
-    if start >= s.len() {
-        return &s[0..0];
-    }
-    if len >= s.len() - start {
-        return &s[start..];
-    }
-    let end = start + len;
-    &s[start..end]
-}
-
 // context.rs: the query and the fragment so far.
 pub struct Context {
     pub query: [u8; 1024],
@@ -282,68 +268,81 @@ fn without_path(c: Context, outcome: Outcome) -> Answer
     }
 }
 
+// What a target gives, apart from the context: only the answer carries that.
+struct Located {
+    path: PathBuf,
+    outcome: Outcome,
+}
+
+fn unlocated(outcome: Outcome) -> Located
+    ensures { λ r. ⌜ r .outcome ≡ outcome ⌝ }
+{
+    Located {
+        path: PathBuf::new(),
+        outcome,
+    }
+}
+
 // A target, with the match put in, below the package's directory.
-fn target_path(url: &[u8], t: &[u8], c: Context) -> Answer
-    ensures { λ r. ⌜ ((q : Request) → q .packageURL ≡ now (url .entry) → answerOf q r ≡ resolved c (targetPath q (target (now (t .entry))))) ⌝ }
+fn target_path(url: &[u8], t: &[u8]) -> Located
+    ensures { λ r. ⌜ ((q : Request) → q .packageURL ≡ now (url .entry) → locatedOf q r ≡ targetPath q (target (now (t .entry)))) ⌝ }
 {
     if t.len() > 2048 {
-        return without_path(c, Outcome::OverLong);
+        return unlocated(Outcome::OverLong);
     }
     if path::is_invalid_exports_target(t) {
-        return Answer {
-            context: c,
+        return Located {
             path: PathBuf::from(t),
             outcome: Outcome::InvalidTarget,
         };
     }
     let path = path::normalize_with(url, t);
     if path.len > 2048 {
-        return without_path(c, Outcome::OverLong);
+        return unlocated(Outcome::OverLong);
     }
-    Answer {
-        context: c,
+    Located {
         path,
         outcome: Outcome::Found,
     }
 }
 
-fn starred_target(url: &[u8], t: &[u8], pattern: &[u8], c: Context) -> Answer
-    ensures { λ r. ⌜ ((q : Request) → q .packageURL ≡ now (url .entry) → answerOf q r ≡ resolved c (targetPath q (target (replace star (now (pattern .entry)) (now (t .entry)))))) ⌝ }
+fn starred_target(url: &[u8], t: &[u8], pattern: &[u8]) -> Located
+    ensures { λ r. ⌜ ((q : Request) → q .packageURL ≡ now (url .entry) → locatedOf q r ≡ targetPath q (target (replace star (now (pattern .entry)) (now (t .entry))))) ⌝ }
 {
     let p = substitute(t, pattern);
     let n = p.len;
     if n > 2048 {
-        return without_path(c, Outcome::OverLong);
+        return unlocated(Outcome::OverLong);
     }
-    target_path(url, path::first(&p.bytes, n), c)
+    target_path(url, path::first(&p.bytes, n))
 }
 
-fn folder_target(url: &[u8], t: &[u8], pattern: &[u8], c: Context) -> Answer
-    ensures { λ r. ⌜ ((q : Request) → q .packageURL ≡ now (url .entry) → answerOf q r ≡ resolved c (targetPath q (target (now (t .entry) ++ now (pattern .entry))))) ⌝ }
+fn folder_target(url: &[u8], t: &[u8], pattern: &[u8]) -> Located
+    ensures { λ r. ⌜ ((q : Request) → q .packageURL ≡ now (url .entry) → locatedOf q r ≡ targetPath q (target (now (t .entry) ++ now (pattern .entry)))) ⌝ }
 {
     let p = PathBuf::from(t).append(pattern);
     let n = p.len;
     if n > 2048 {
-        return without_path(c, Outcome::OverLong);
+        return unlocated(Outcome::OverLong);
     }
-    target_path(url, path::first(&p.bytes, n), c)
+    target_path(url, path::first(&p.bytes, n))
 }
 
 // `normalize_string_target`, and what it gives.
-fn normalized_target(url: &[u8], form: Form, pattern: &[u8], t: &[u8], c: Context) -> Answer
-    ensures { λ r. ⌜ ((q : Request) → Asked q (now (url .entry)) form (now (pattern .entry)) → answerOf q r ≡ resolved c (targetPath q (normalizeStringTarget (q .key) (now (t .entry)) (q .matched)))) ⌝ }
+fn normalized_target(url: &[u8], form: Form, pattern: &[u8], t: &[u8]) -> Located
+    ensures { λ r. ⌜ ((q : Request) → Asked q (now (url .entry)) form (now (pattern .entry)) → locatedOf q r ≡ targetPath q (normalizeStringTarget (q .key) (now (t .entry)) (q .matched))) ⌝ }
 {
     match form {
-        Form::Plain => target_path(url, t, c),
-        Form::Starred => starred_target(url, t, pattern, c),
+        Form::Plain => target_path(url, t),
+        Form::Starred => starred_target(url, t, pattern),
         Form::Folder => {
             if text::contains(t, b'*') {
-                return starred_target(url, t, pattern, c);
+                return starred_target(url, t, pattern);
             }
             if text::ends_with(t, b"/") {
-                return folder_target(url, t, pattern, c);
+                return folder_target(url, t, pattern);
             }
-            without_path(c, Outcome::ConfigDirectory)
+            unlocated(Outcome::ConfigDirectory)
         }
     }
 }
@@ -363,14 +362,21 @@ fn text_target(url: &[u8], form: Form, pattern: &[u8], s: &[u8], c: Context) -> 
     let query = parsed.query;
     let fragment = parsed.fragment;
     let context = c.with_query_fragment(
-        part(path::first(s, fragment), query, s.len()),
-        part(s, fragment, s.len()),
+        text::part(path::first(s, fragment), query, s.len()),
+        text::part(s, fragment, s.len()),
     );
     let path = parsed.path;
     let n = path.len;
     let t = path::first(&path.bytes, n);
     if text::starts_with(t, b"./") {
-        return normalized_target(url, form, pattern, t, context);
+        let located = normalized_target(url, form, pattern, t);
+        let path = located.path;
+        let outcome = located.outcome;
+        return Answer {
+            context,
+            path,
+            outcome,
+        };
     }
     Answer {
         context,
@@ -899,7 +905,7 @@ fn pattern_resolve(
         settings,
         url,
         form,
-        part(match_key, start, len),
+        text::part(match_key, start, len),
         c,
         work,
     );
