@@ -203,7 +203,17 @@ fn push_parts(b: &mut [u8; 2048], from: usize, sub: &[u8]) -> usize
     }
 }
 
-// A subpath from a base: "." is dropped, ".." pops; an empty or absolute subpath is the answer itself.
+// A subpath from a base, with "./" before it: "." is dropped, ".." pops, and an empty or absolute one is taken from the base too.
+pub fn normalize_below(base: &[u8], sub: &[u8]) -> PathBuf
+    ensures { λ r. ⌜ pathOf r ≡ normalizeWith (now (base .entry)) (text "./" ++ now (sub .entry)) ⌝ }
+{
+    let mut p = PathBuf::from(base);
+    let n = p.len;
+    p.len = push_parts(&mut p.bytes, n, sub);
+    p
+}
+
+// The same without "./": an empty or absolute subpath is the answer itself.
 pub fn normalize_with(base: &[u8], sub: &[u8]) -> PathBuf
     ensures { λ r. ⌜ pathOf r ≡ normalizeWith (now (base .entry)) (now (sub .entry)) ⌝ }
 {
@@ -213,20 +223,7 @@ pub fn normalize_with(base: &[u8], sub: &[u8]) -> PathBuf
     if sub[0] == b'/' {
         return PathBuf::from(sub);
     }
-    let mut p = PathBuf::from(base);
-    let n = p.len;
-    p.len = push_parts(&mut p.bytes, n, sub);
-    p
-}
-
-// The same with "./" before the subpath, so that an empty or absolute one is taken from the base too.
-pub fn normalize_below(base: &[u8], sub: &[u8]) -> PathBuf
-    ensures { λ r. ⌜ pathOf r ≡ normalizeWith (now (base .entry)) (text "./" ++ now (sub .entry)) ⌝ }
-{
-    let mut p = PathBuf::from(base);
-    let n = p.len;
-    p.len = push_parts(&mut p.bytes, n, sub);
-    p
+    normalize_below(base, sub)
 }
 
 // The "/" of an absolute path; nothing of any other.

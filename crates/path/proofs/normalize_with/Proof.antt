@@ -2,6 +2,7 @@ use borrow.Author.Needs.{needs}
 use native.Mathlib.Omega.{arith}
 use mathlib.Core.Path.{sym, _∙_}
 use Rattle.definition.specs.PathLaws.{with-empty, with-rooted, with-parts}
+use Rattle.path.proofs.Parts.{with-dot}
 use Rattle.path.proofs.normalize_with.Statement.{statement}
 use Rattle.path.proofs.normalize_with.Tie as tie
 
@@ -15,5 +16,4 @@ normalize-with-spec =
     (λ c κs. search needs)
     (λ c. c .from2 .ensures ∙ sym (with-rooted _ _ (omega arith) (c .before .if2 .taken)))
     (λ c κs. search needs)
-    (λ c κs. search needs)
-    (λ c. c .push-parts .ensures ∙ rw (c .before .before .from3 .ensures) (sym (with-parts _ _ (omega arith) (c .before .before .before .if2 .left)))))
+    (λ c. c .normalize-below .ensures ∙ with-dot _ _ ∙ sym (with-parts _ _ (omega arith) (c .before .if2 .left))))
