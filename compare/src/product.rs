@@ -1,26 +1,9 @@
 //! The product: the static library's one function, called with buffers of exactly the lengths wanted.
 
-unsafe extern "C" {
-    fn hannuvozh_lookup(
-        listing: *const u8,
-        listing_length: usize,
-        settings: *const u8,
-        settings_length: usize,
-        start: *const u8,
-        start_length: usize,
-        specifier: *const u8,
-        specifier_length: usize,
-        result: *mut u8,
-        result_length: usize,
-        list_numbers: *mut u32,
-        list_numbers_length: usize,
-        list_text: *mut u8,
-        list_text_length: usize,
-        work: *mut u8,
-        work_length: usize,
-        lengths: *mut u32,
-    ) -> u32;
-}
+#[path = "../../bindings/rust/src/library.rs"]
+mod library;
+
+use library::hannuvozh_lookup;
 
 /// Lengths of the lent buffers.
 #[derive(Clone, Copy, Debug)]
@@ -86,7 +69,7 @@ impl Left {
                 self.list.len(),
                 self.work.as_mut_ptr(),
                 self.work.len(),
-                self.lengths.as_mut_ptr(),
+                &raw mut self.lengths,
             )
         };
     }

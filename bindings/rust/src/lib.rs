@@ -24,6 +24,7 @@
 
 mod answer;
 mod disk;
+mod library;
 mod listing;
 mod lookup;
 mod settings;

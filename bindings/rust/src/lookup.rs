@@ -1,28 +1,7 @@
+use crate::library::hannuvozh_lookup;
 use crate::{Answer, Refusal};
 use std::fmt;
 use std::fmt::Write as _;
-
-unsafe extern "C" {
-    fn hannuvozh_lookup(
-        listing: *const u8,
-        listing_length: usize,
-        settings: *const u8,
-        settings_length: usize,
-        start: *const u8,
-        start_length: usize,
-        specifier: *const u8,
-        specifier_length: usize,
-        result: *mut u8,
-        result_length: usize,
-        list_numbers: *mut u32,
-        list_numbers_length: usize,
-        list_text: *mut u8,
-        list_text_length: usize,
-        work: *mut u8,
-        work_length: usize,
-        lengths: *mut [u32; 3],
-    ) -> u32;
-}
 
 /// No answer's texts are longer together.
 const RESULT: usize = 6_157;
