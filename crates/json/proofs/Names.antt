@@ -13,7 +13,7 @@ use Rattle.definition.specs.TextLaws.{equal-true, equal-refl}
 use Rattle.definition.specs.ListingOrder.{smaller-trans, smaller-unequal}
 use Rattle.definition.specs.JsonStringLaws.{by-test}
 use Rattle.definition.specs.Json as json
-use Rattle.definition.specs.Json.{Read, got, fault, skipSpace, quoted, memberName}
+use Rattle.definition.specs.Json.{got, fault, skipSpace, quoted, memberName}
 use Rattle.json_text.specs.Scanned.{faultOf, Reads}
 use Rattle.json.specs.Names.{markOf, rank, Ordered, Table, Fits, shifted, Inserted, Fresh, Key, NameRead, keyOf, colonAt}
 use Rattle.json_text.specs.declared.Fault as code

@@ -437,7 +437,7 @@ fn key(m: &[u8], at: usize, names: &[usize], marks: &[usize], count: usize) -> N
     }
 }
 
-// A value in which `depth` more brackets may be open.
+// A value in which `depth` more brackets may be open: where it ends.
 pub fn value(m: &[u8], at: usize, depth: usize) -> Scan
     ensures { λ r. ⌜ Reads (now (m .entry)) (valueOf depth (drop at (now (m .entry)))) r ⌝ }
 {

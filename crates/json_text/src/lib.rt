@@ -425,7 +425,7 @@ fn any_string(m: &[u8], at: usize) -> Scan
     }
 }
 
-// A string from its opening quote.
+// A string from its opening quote: where it ends.
 pub fn quoted(m: &[u8], at: usize) -> Scan
     ensures { λ r. ⌜ Reads (now (m .entry)) (quotedOf (drop at (now (m .entry)))) r ⌝ }
 {

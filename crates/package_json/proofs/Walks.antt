@@ -1,19 +1,18 @@
 -- The readers of `JsonAt` at a place of a manifest.
 use mathlib.Core.Path.{_≡_, refl, sym, _∙_, ap}
 use mathlib.Core.Bool.{Bool, true, false, _||_}
-use mathlib.Core.List.{List, [], _∷_, _++_}
+use mathlib.Core.List.{List, [], _∷_}
 use mathlib.Core.Option.{Option, none, some}
 use Prim.Native.Nat.{ℕ, zero, suc, _+_, _-_, _<_, _≤_}
 use native.Mathlib.Omega.{arith}
 use native.Mathlib.Numerals.{add-one}
-use lib.ListN.{length, drop, take, getD, take-append-drop}
-use lib.Seq.{drop-drop, take-all, length-take-le}
+use lib.ListN.{length, drop, getD}
 use lib.Dec.{eqb}
-use borrow.Author.Tests.{eq-eqb, ne-eqb, eqb-true, le-leb, lt-leb}
-use Rattle.definition.specs.Text.{if_then_else_, equal, overwrite}
-use Rattle.definition.specs.Json.{Read, got, fault, Fault, quoted}
+use borrow.Author.Tests.{eq-eqb, ne-eqb, eqb-true}
+use Rattle.definition.specs.Text.{if_then_else_}
+use Rattle.definition.specs.Json.{Read}
 use Rattle.definition.specs.JsonSkipLaws.{over-text}
-use Rattle.definition.specs.JsonAt.{thenAt, textEnd, opensBracket, closesBracket, outside, bracketEnd, restOf, further, isText, nameIs, memberValue, nextMember, findMember, hasEscape, toldAt, textAt}
+use Rattle.definition.specs.JsonAt.{thenAt, textEnd, opensBracket, closesBracket, outside, bracketEnd, restOf, further, nameIs, memberValue, nextMember, findMember}
 use Rattle.json_text.specs.Scanned.{Reads}
 use Rattle.json_text.specs.Decoded.{plain}
 use Rattle.json_text.specs.declared.Scan.{Scan}

@@ -1,4 +1,4 @@
-// A manifest: its check (7, 40, 41, or the place of its root), and the members, elements and texts by their places. Every public function takes any bytes.
+// A manifest: its check (7, 40, 41, or the place of its root), and its members, elements and texts by their places, over any bytes.
 pub use json_text::Fault;
 use json_text::Scan;
 pub use json_text::TextAt;
