@@ -18,10 +18,12 @@ use Rattle.definition.specs.JsonSoundLaws.{quoted-sound}
 use Rattle.definition.specs.Exports.{get, entries}
 use Rattle.package_json.specs.declared.Cursor.{Cursor}
 use Rattle.package_json.specs.declared.Cursor.the-variants.{At, Nothing}
-use Rattle.package_json.specs.declared.TextAt.{TextAt}
+use Rattle.json_text.specs.declared.TextAt.{TextAt}
 use Rattle.package_json.specs.declared.Kind as kind
 use Rattle.package_json.specs.Cursors as cursors
-use Rattle.package_json.specs.Cursors.{placed, textOf, told, orEmpty}
+use Rattle.package_json.specs.Cursors.{placed}
+use Rattle.json_text.specs.Texts.{textOf, told, orEmpty}
+use Rattle.json_text.proofs.Texts.{text-read}
 use Rattle.exports.specs.declared.Kind.{Kind}
 use Rattle.exports.specs.declared.Kind.the-variants.{Scalar, String, Array, Object}
 use Rattle.exports.specs.Places.{Stands, MembersAt, ElementsAt, MembersFrom, ElementsFrom, kindOf, Finds}
@@ -150,7 +152,7 @@ module _ {m : List ℕ} {d i : ℕ} {s : List ℕ} (h : Stands m d i (str s)) wh
   text-short = quoted-sound (drop i m) s (h .here .rest) (at.text-here (h .here)) .fits
 
   pub text-target : (w w′ : List ℕ) (r : TextAt) (t : List ℕ) → 1024 ≤ length w → told m w′ r ≡ textAt (drop i m) w → t ≡ orEmpty (textOf m w′ r) → t ≡ s
-  text-target w w′ r t l e f = f ∙ ap orEmpty (ap (λ x. x .text) e ∙ at.text-told (drop i m) w s (h .here .rest) l (at.text-here (h .here)))
+  text-target w w′ r t l e f = text-read m w w′ i r l e f (at.text-here (h .here))
 
 -- a key's name is a string too
 pub name-stands : (m : List ℕ) (d i : ℕ) (k s : List ℕ) → quoted (drop i m) ≡ got k s → Stands m d i (str k)

@@ -1,9 +1,2 @@
-pub mod Rules
-pub mod Laws
-pub mod Steps
-pub mod Buffer
-pub mod Strings
-pub mod Names
-pub mod Values
 pub mod Whole
 pub mod Walks

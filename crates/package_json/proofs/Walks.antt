@@ -1,27 +1,26 @@
 -- The readers of `JsonAt` at a place of a manifest.
 use mathlib.Core.Path.{_≡_, refl, sym, _∙_, ap}
 use mathlib.Core.Bool.{Bool, true, false, _||_}
-use mathlib.Core.List.{List, [], _∷_, _++_}
+use mathlib.Core.List.{List, [], _∷_}
 use mathlib.Core.Option.{Option, none, some}
 use Prim.Native.Nat.{ℕ, zero, suc, _+_, _-_, _<_, _≤_}
 use native.Mathlib.Omega.{arith}
 use native.Mathlib.Numerals.{add-one}
-use lib.ListN.{length, drop, take, getD, take-append-drop}
-use lib.Seq.{drop-drop, take-all, length-take-le}
+use lib.ListN.{length, drop, getD}
 use lib.Dec.{eqb}
-use borrow.Author.Tests.{eq-eqb, ne-eqb, eqb-true, le-leb, lt-leb}
-use Rattle.definition.specs.Text.{if_then_else_, equal, overwrite}
-use Rattle.definition.specs.Json.{Read, got, fault, Fault, quoted}
+use borrow.Author.Tests.{eq-eqb, ne-eqb, eqb-true}
+use Rattle.definition.specs.Text.{if_then_else_}
+use Rattle.definition.specs.Json.{Read}
 use Rattle.definition.specs.JsonSkipLaws.{over-text}
-use Rattle.definition.specs.JsonAt.{thenAt, textEnd, opensBracket, closesBracket, outside, bracketEnd, restOf, further, isText, nameIs, memberValue, nextMember, findMember, hasEscape, toldAt, textAt}
-use Rattle.package_json.specs.Scanned.{Reads}
-use Rattle.package_json.specs.Decoded.{plain}
-use Rattle.package_json.specs.declared.Scan.{Scan}
-use Rattle.package_json.specs.declared.Scan.the-variants.{End, Fault as Faulty}
-use Rattle.package_json.specs.declared.Fault as code
-use Rattle.package_json.proofs.Rules.{here, past}
-use Rattle.package_json.proofs.Laws.{was-end, was-fault}
-use Rattle.package_json.proofs.Strings.{plain-stop-at}
+use Rattle.definition.specs.JsonAt.{thenAt, textEnd, opensBracket, closesBracket, outside, bracketEnd, restOf, further, nameIs, memberValue, nextMember, findMember}
+use Rattle.json_text.specs.Scanned.{Reads}
+use Rattle.json_text.specs.Decoded.{plain}
+use Rattle.json_text.specs.declared.Scan.{Scan}
+use Rattle.json_text.specs.declared.Scan.the-variants.{End, Fault as Faulty}
+use Rattle.json_text.specs.declared.Fault as code
+use Rattle.json_text.proofs.Rules.{here, past}
+use Rattle.json_text.proofs.Laws.{was-end, was-fault}
+use Rattle.json_text.proofs.Strings.{plain-stop-at}
 
 no : {P : Type 0} → ⊥ → P
 no z = absurd z
@@ -131,25 +130,6 @@ pub further-done : (next : List ℕ → Option (List ℕ)) (n : ℕ) (c : Option
 unfolding further
 further-done next n c l = let z : n ≡ 0 = omega arith in rw z
 
--- a name
-module _ (m key : List ℕ) (at : ℕ) {r : Bool} (h : (t s : List ℕ) → quoted (drop at m) ≡ got t s → r ≡ equal t key) where
-  pub name-other : r ≡ false → false ≡ nameIs key (drop at m)
-  unfolding nameIs isText
-  name-other e = go (quoted (drop at m)) refl
-    where
-      go : (x : Read (List ℕ)) → quoted (drop at m) ≡ x → false ≡ isText x key
-      go (got t s) q = sym e ∙ h t s q
-      go (fault f) q = refl
-
-  module _ {q : Scan} (g : Reads m (quoted (drop at m)) q) where
-    pub name-same : {i : ℕ} → q ≡ End i → r ≡ true → true ≡ nameIs key (drop at m)
-    unfolding nameIs isText
-    name-same {i} k e = let z = was-end g k in rw (z .1) (sym e ∙ h (z .0) (drop i m) (z .1))
-
-    pub name-faulty : {f : code.Fault} → q ≡ Faulty f → false ≡ nameIs key (drop at m)
-    unfolding nameIs isText
-    name-faulty k = rw (was-fault g k)
-
 -- the search for a name
 pub find-none : (n : ℕ) (k : List ℕ) → none ≡ findMember n k none
 unfolding findMember
@@ -169,36 +149,3 @@ pub find-on : (n : ℕ) (k s : List ℕ) → 0 < n → nameIs k s ≡ false → 
 unfolding findMember
 find-on zero k s l e = no (omega arith)
 find-on (suc n) k s l e = let z : suc n - 1 ≡ n = omega arith in rw (e, z)
-
--- the text of a string
-module _ (m : List ℕ) (at : ℕ) (w : List ℕ) where
-  told-as : textAt (drop at m) w ≡ toldAt (hasEscape (drop (at + 1) m)) (quoted (drop at m)) w
-  unfolding textAt
-  told-as = rw (drop-drop 1 at m)
-
-  pub told-none : {f : Fault} → quoted (drop at m) ≡ fault f → record { text = none; work = w } ≡ textAt (drop at m) w
-  unfolding toldAt
-  told-none {f} q = sym (told-as ∙ rw q (go (hasEscape (drop (at + 1) m))))
-    where
-      go : (e : Bool) → toldAt e (fault f) w ≡ record { text = none; work = w }
-      go true = refl
-      go false = refl
-
-  module _ {t r : List ℕ} (q : quoted (drop at m) ≡ got t r) where
-    pub told-plain : {u : List ℕ} → u ≡ t → hasEscape (drop (at + 1) m) ≡ false → record { text = some u; work = w } ≡ textAt (drop at m) w
-    unfolding toldAt
-    told-plain d e = sym (told-as ∙ rw (e, q, d))
-
-    module _ (e : hasEscape (drop (at + 1) m) ≡ true) where
-      pub told-short : length w < 1024 → record { text = none; work = w } ≡ textAt (drop at m) w
-      unfolding toldAt
-      told-short l = sym (told-as ∙ rw (e, q) (rw (lt-leb 1024 (length w) l)))
-
-      pub told-work : (w′ : List ℕ) (n : ℕ) → 1024 ≤ length w → length w′ ≡ length w → n ≤ 1024 → take n w′ ≡ t → drop n w′ ≡ drop n w → record { text = some (take n w′); work = w′ } ≡ textAt (drop at m) w
-      unfolding toldAt overwrite
-      told-work w′ n l c b d k =
-          let a : length t ≡ n = ap length (sym d) ∙ length-take-le n w′ (omega arith) in
-          let f : take (length w - 0) t ≡ t = take-all (length w - 0) t (omega arith) in
-          let z : w′ ≡ t ++ drop n w = sym (take-append-drop n w′) ∙ rw (d, k) in
-          let y : 0 + length t ≡ n = omega arith in
-          sym (told-as ∙ rw (e, q) (rw (le-leb 1024 (length w) l, f, y, d) (ap (λ x. record { text = some t; work = x }) (sym z))))

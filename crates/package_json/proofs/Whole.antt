@@ -10,12 +10,12 @@ use borrow.Author.Tests.{eq-eqb, ne-eqb, lt-leb, le-leb}
 use Rattle.definition.specs.Text.{startsWith, skipWhile}
 use Rattle.definition.specs.Json.{malformed, beyond, andThen, skipSpace, isSpace, value, atEnd, document, replaceBom, parse}
 use Rattle.definition.specs.JsonAt.{rooted, faulty, checkedBy, check}
-use Rattle.package_json.specs.Scanned.{faultOf, Reads}
-use Rattle.package_json.specs.declared.Fault as code
-use Rattle.package_json.specs.declared.Scan.{Scan}
-use Rattle.package_json.specs.declared.Scan.the-variants.{End, Fault}
-use Rattle.package_json.proofs.Rules.{here, past}
-use Rattle.package_json.proofs.Laws.{was-end, was-fault}
+use Rattle.json_text.specs.Scanned.{faultOf, Reads}
+use Rattle.json_text.specs.declared.Fault as code
+use Rattle.json_text.specs.declared.Scan.{Scan}
+use Rattle.json_text.specs.declared.Scan.the-variants.{End, Fault}
+use Rattle.json_text.proofs.Rules.{here, past}
+use Rattle.json_text.proofs.Laws.{was-end, was-fault}
 
 none : {P : Type 0} → ⊥ → P
 none z = absurd z

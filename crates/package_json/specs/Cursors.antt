@@ -1,16 +1,13 @@
 -- What the answers of the public functions mean in terms of the definition.
 use mathlib.Core.Path.{_≡_}
 use Prim.Native.Nat.{ℕ, _<_, _≤_}
-use mathlib.Core.Bool.{Bool, false}
-use mathlib.Core.List.{[], _∷_}
 use mathlib.Core.Option.{Option, none, some}
-use lib.ListN.{drop, take}
-use lib.Dec.{eqb}
+use lib.ListN.{drop}
 use Rattle.definition.specs.Text.{Text}
 use Rattle.definition.specs.Json.{faultNumber}
 use Rattle.definition.specs.JsonAt as json
-use Rattle.definition.specs.JsonAt.{rooted, faulty, aScalar, aString, anArray, anObject, outside, bracketEnd, Told}
-use Rattle.package_json.specs.Scanned.{faultOf}
+use Rattle.definition.specs.JsonAt.{rooted, faulty, aScalar, aString, anArray, anObject, outside, bracketEnd}
+use Rattle.json_text.specs.Scanned.{faultOf}
 use Rattle.package_json.specs.declared.Checked.{Checked}
 use Rattle.package_json.specs.declared.Checked.the-variants.{Root, Fault}
 use Rattle.package_json.specs.declared.Cursor.{Cursor}
@@ -19,8 +16,6 @@ use Rattle.package_json.specs.declared.Kind as kind
 use Rattle.package_json.specs.declared.Kind.the-variants.{Scalar, String, Array, Object, Nothing as NoKind}
 use Rattle.package_json.specs.declared.Hop.{Hop}
 use Rattle.package_json.specs.declared.Hop.the-variants.{On, Out, Cut}
-use Rattle.package_json.specs.declared.TextAt.{TextAt}
-use Rattle.package_json.specs.declared.TextAt.the-variants.{Manifest, Work, Nothing as NoText}
 
 abbrev pub checkedOf : Text → Checked → json.Checked
 checkedOf m (Root i) = rooted (drop i m)
@@ -61,20 +56,3 @@ OnAhead i Cut = Unit {0}
 pub record Hops (m : Text) (i n : ℕ) (r : Hop) : Type 0 where
   pub ahead : OnAhead i r
   pub is : hopped m r ≡ bracketEnd outside n (drop i m)
-
-abbrev pub startsQuote : Text → Bool
-startsQuote [] = false
-startsQuote (b ∷ s) = eqb b 34
-
--- the text that an answer of the string reader names, and the definition's record of it
-abbrev pub textOf : Text → Text → TextAt → Option Text
-textOf m w (Manifest i n) = some (take n (drop i m))
-textOf m w (Work n) = some (take n w)
-textOf m w NoText = none
-
-abbrev pub told : Text → Text → TextAt → Told
-told m w r = record { text = textOf m w r; work = w }
-
-abbrev pub orEmpty : Option Text → Text
-orEmpty none = []
-orEmpty (some t) = t

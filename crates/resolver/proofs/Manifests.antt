@@ -25,10 +25,10 @@ use Rattle.definition.specs.Ask.{State, Listing, Step, go, stop, Ask, ret, end,
 use Rattle.definition.specs.Manifest.{Place, Manifest, End, stopped, failed, manifestBeyond, nameTwice, pathTooLong, refusalNumber, endNumber, endTexts, field, ifText, manifestView, viewOf, view}
 use Rattle.definition.specs.Called.{joined}
 use Rattle.definition.specs.Walk.{Look, Scope, when, isDir, made, at, sound, mainPath, under, orAbove, nearest, ifOwn, own, perhaps, forEach, LOAD-AS-FILE, LOAD-INDEX, loadMain, LOAD-AS-DIRECTORY}
-use Rattle.package_json.specs.declared.TextAt.{TextAt}
-use Rattle.package_json.specs.declared.TextAt.the-variants.{Manifest as InManifest, Work, Nothing}
-use Rattle.package_json.specs.Cursors.{textOf, orEmpty}
-use Rattle.package_json.proofs.TextAt as textAts
+use Rattle.json_text.specs.declared.TextAt.{TextAt}
+use Rattle.json_text.specs.declared.TextAt.the-variants.{Manifest as InManifest, Work, Nothing}
+use Rattle.json_text.specs.Texts.{textOf, orEmpty}
+use Rattle.json_text.proofs.TextAt as textAts
 use Rattle.path.specs.Meaning.{pathAt}
 use Rattle.files.specs.declared.Ending.{Ending}
 use Rattle.files.specs.declared.Mark.{Mark}

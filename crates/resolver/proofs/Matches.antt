@@ -24,7 +24,8 @@ use Rattle.definition.specs.Walk.{Look, perhaps, given, never, notFound, LOAD-A
 use Rattle.package_json.proofs.Cursor as cursor
 use Rattle.package_json.specs.declared.Cursor.{Cursor}
 use Rattle.package_json.specs.declared.Cursor.the-variants.{At, Nothing}
-use Rattle.package_json.specs.Cursors.{placed, orEmpty}
+use Rattle.package_json.specs.Cursors.{placed}
+use Rattle.json_text.specs.Texts.{orEmpty}
 use Rattle.exports.specs.Chosen as chosen
 use Rattle.exports.specs.Chosen.{readText}
 use Rattle.files.specs.declared.Ending.{Ending}

@@ -30,8 +30,9 @@ ghost use Rattle.definition.specs.Manifest.{ifText, field, firstField, resolved
 ghost use Rattle.definition.specs.Called.{seenBy};
 ghost use Rattle.definition.specs.Walk.{perhaps, forEach, given, never, sound, mainPath, nearest, own as ownIn, loadMain, LOAD-AS-DIRECTORY, RESOLVE-ESM-MATCH, byExports, LOAD-PACKAGE-EXPORTS, inScope, LOAD-PACKAGE-SELF, goOn, asFileOrDirectory, inModules, inDirectory, LOAD-NODE-MODULES, lookup};
 ghost use Rattle.path.specs.Meaning.{pathOf};
-ghost use Rattle.package_json.specs.Scanned.{faultOf};
-ghost use Rattle.package_json.specs.Cursors.{placed, textOf};
+ghost use Rattle.json_text.specs.Scanned.{faultOf};
+ghost use Rattle.package_json.specs.Cursors.{placed};
+ghost use Rattle.json_text.specs.Texts.{textOf};
 ghost use Rattle.exports.specs.Keys.{matchOf};
 ghost use Rattle.exports.specs.Answers.{outcomeIn};
 ghost use Rattle.exports.specs.Chosen.{keyText};

@@ -9,7 +9,7 @@ use Rattle.resolver.proofs.in_scope.Statement.{statement}
 use Rattle.resolver.proofs.in_scope.Tie as tie
 use Rattle.resolver.proofs.in_scope.Reads as reads
 use Rattle.resolver.proofs.in_scope.Lts as lts
-use Rattle.package_json.proofs.text_at.Reads as text-at-reads
+use Rattle.json_text.proofs.text_at.Reads as text-at-reads
 use Rattle.resolver.proofs.by_exports.Reads as by-exports-reads
 use Rattle.resolver.proofs.text_field.Reads as text-field-reads
 use Rattle.specifier.proofs.strip_package_name.Reads as strip-package-name-reads

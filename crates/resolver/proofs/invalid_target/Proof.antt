@@ -1,6 +1,6 @@
 use mathlib.Core.Path.{_∙_, ap}
 use Rattle.definition.specs.Path.{andPath, limited, manifestOf}
-use Rattle.package_json.specs.Cursors.{orEmpty}
+use Rattle.json_text.specs.Texts.{orEmpty}
 use Rattle.resolver.proofs.Manifests.{manifest-path}
 use Rattle.resolver.proofs.Matches.{key-read}
 use borrow.Author.Needs.{needs}
@@ -8,8 +8,8 @@ use Rattle.resolver.proofs.invalid_target.Statement.{statement}
 use Rattle.resolver.proofs.invalid_target.Tie as tie
 use Rattle.resolver.proofs.invalid_target.Reads as reads
 use Rattle.resolver.proofs.invalid_target.Lts as lts
-use Rattle.package_json.proofs.read_text.Reads as read-text-reads
-use Rattle.package_json.proofs.text_at.Reads as text-at-reads
+use Rattle.json_text.proofs.read_text.Reads as read-text-reads
+use Rattle.json_text.proofs.text_at.Reads as text-at-reads
 use Rattle.path.proofs.PathBuf.from.Reads as from-reads
 use Rattle.path.proofs.PathBuf.push_manifest.Reads as push-manifest-reads
 use Rattle.path.proofs.first.Reads as first-reads

@@ -1,13 +1,13 @@
 use mathlib.Core.Path.{_∙_, ap}
-use Rattle.package_json.specs.Cursors.{orEmpty}
+use Rattle.json_text.specs.Texts.{orEmpty}
 use Rattle.resolver.proofs.Matches.{key-read}
 use borrow.Author.Needs.{needs}
 use Rattle.resolver.proofs.key_not_exported.Statement.{statement}
 use Rattle.resolver.proofs.key_not_exported.Tie as tie
 use Rattle.resolver.proofs.key_not_exported.Reads as reads
 use Rattle.resolver.proofs.key_not_exported.Lts as lts
-use Rattle.package_json.proofs.read_text.Reads as read-text-reads
-use Rattle.package_json.proofs.text_at.Reads as text-at-reads
+use Rattle.json_text.proofs.read_text.Reads as read-text-reads
+use Rattle.json_text.proofs.text_at.Reads as text-at-reads
 use Rattle.files.proofs.finish.Reads as finish-reads
 
 pub key-not-exported-spec : {M : Type 1} → statement M

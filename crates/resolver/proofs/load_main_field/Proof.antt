@@ -6,7 +6,7 @@ use Rattle.resolver.proofs.load_main_field.Statement.{statement}
 use Rattle.resolver.proofs.load_main_field.Tie as tie
 use Rattle.resolver.proofs.load_main_field.Reads as reads
 use Rattle.resolver.proofs.load_main_field.Lts as lts
-use Rattle.package_json.proofs.text_at.Reads as text-at-reads
+use Rattle.json_text.proofs.text_at.Reads as text-at-reads
 use Rattle.resolver.proofs.load_main.Reads as load-main-reads
 use Rattle.resolver.proofs.text_field.Reads as text-field-reads
 use Rattle.settings.proofs.text.Reads as text-reads

@@ -6,7 +6,7 @@ use Rattle.resolver.proofs.text_field.Tie as tie
 use Rattle.resolver.proofs.text_field.Reads as reads
 use Rattle.resolver.proofs.text_field.Lts as lts
 use Rattle.package_json.proofs.get.Reads as get-reads
-use Rattle.package_json.proofs.read_text.Reads as read-text-reads
+use Rattle.json_text.proofs.read_text.Reads as read-text-reads
 
 pub text-field-spec : {M : Type 1} → statement M
 text-field-spec =

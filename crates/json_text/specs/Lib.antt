@@ -1,0 +1,4 @@
+pub mod Scanned
+pub mod Automaton
+pub mod Decoded
+pub mod Texts
