@@ -1,15 +1,14 @@
-use mathlib.Core.Path.{_≡_, refl, _∙_}
-use Prim.Native.Nat.{_-_}
-use lib.ListN.{length}
 use borrow.Author.Needs.{needs}
+use mathlib.Core.Path.{_≡_}
+use lib.ListN.{length}
 use Rattle.package_json_main.proofs.repeat.Statement.{statement}
 use Rattle.package_json_main.proofs.repeat.Tie as tie
 
 abbrev Inv-loop : tie.InvT-loop
-Inv-loop buf₀ at part times end₀ left₀ buf end left = length buf ≡ length buf₀
+Inv-loop t times out₀ at n₀ left₀ out n left = length out ≡ length out₀
 
 abbrev μ-loop : tie.MeasureT-loop
-μ-loop buf₀ at part times end₀ left₀ buf end left = left
+μ-loop t times out₀ at n₀ left₀ out n left = left
 
 pub repeat-spec : {M : Type 1} → statement M
 repeat-spec =
@@ -17,11 +16,10 @@ repeat-spec =
     (tie.spec
     Inv-loop
     μ-loop
-    (λ c. refl)
-    (λ c κs. search needs)
+    (λ c. search needs)
     (λ c κs. search needs)
     (λ c. search needs)
     (λ c. search needs)
-    (λ c. c .before .before .before .copy-at .kept .0 ∙ c .before .before .before .before .before .before .loop .inv)
-    (λ c. c .before .loop .inv)
+    (λ c. search needs)
+    (λ c. search needs)
     (λ c. search needs))
