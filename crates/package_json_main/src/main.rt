@@ -166,9 +166,9 @@ fn letter_of(k: Kind) -> u8 {
 fn has_text(m: &[u8], at: usize, wanted: &[u8]) -> bool {
     let mut w = [0u8; 1024];
     let mut x = [0u8; 64];
-    let t = package_json::read_text(m, at, &mut w);
+    let t = json_text::read_text(m, at, &mut w);
     let n = expand(wanted, &mut x, 0);
-    text::equal(package_json::text_at(m, &w, t), text::part(&x, 0, n))
+    text::equal(json_text::text_at(m, &w, t), text::part(&x, 0, n))
 }
 
 // The rows of the readers: what is wanted, which member or element, and the manifest.
