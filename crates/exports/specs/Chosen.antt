@@ -10,8 +10,6 @@ use Rattle.definition.specs.Json.{Json, scalar, str, arr, obj, got, quoted}
 use Rattle.definition.specs.Exports as exports
 use Rattle.definition.specs.Exports.{Entry, anyKey, isDotKey, isSubpathKey, patternMatch, Request, orGoOn, keyResolve, pathNotExported}
 use Rattle.exports.specs.Places.{Stands}
-use Rattle.exports.specs.declared.Answer.{Answer}
-use Rattle.exports.specs.declared.Match.{Match}
 use Rattle.exports.specs.declared.Form.{Form}
 use Rattle.exports.specs.declared.Form.the-variants.{Starred, Folder}
 use Rattle.exports.specs.declared.KeyMarks.{KeyMarks}
@@ -50,10 +48,6 @@ abbrev pub formOf : Bool → Form
 formOf true = Starred
 formOf false = Folder
 
--- an answer with the key that led to the target and the match
-abbrev pub withKey : Answer → Key → Match → Resolved
-withKey a k x = record { context = a .context; path = a .path; outcome = a .outcome; key = k; matched = x }
-
 -- the text of the key
 abbrev pub keyText : (m subpath : List ℕ) → Key → List ℕ
 keyText m subpath Dot = text "."
@@ -63,8 +57,8 @@ keyText m subpath (At i) = stringAt m i
 abbrev pub resolvedOf : (m url subpath : List ℕ) → Resolved → exports.Resolved
 resolvedOf m url subpath r =
     record {
-      context = contextOf m (r .context);
-      outcome = outcomeIn url (keyText m subpath (r .key)) (matchOf subpath (r .matched)) (r .outcome) (pathText (r .path));
+      context = contextOf m (r .answer .context);
+      outcome = outcomeIn url (keyText m subpath (r .key)) (matchOf subpath (r .matched)) (r .answer .outcome) (pathText (r .answer .path));
     }
 
 -- no query and no fragment yet

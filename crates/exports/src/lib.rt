@@ -21,7 +21,7 @@ ghost use Rattle.definition.specs.Specifier.{parseSpecifier};
 ghost use Rattle.exports.specs.Keys.{rankOf, orderOf, matchOf};
 ghost use Rattle.exports.specs.Contexts.{stringAt, partText, Inside, contextOf};
 ghost use Rattle.exports.specs.Answers.{answerOf, resolved, Asked, isNothing, isFinal, isSome, isPassed, Resolves};
-ghost use Rattle.exports.specs.Chosen.{aKey, joinedKeys, keysOf, BestOf, formOf, withKey, resolvedOf, fresh, dotRequest, keysOrNot, IsWhole};
+ghost use Rattle.exports.specs.Chosen.{aKey, joinedKeys, keysOf, BestOf, formOf, resolvedOf, fresh, dotRequest, keysOrNot, IsWhole};
 
 pub enum Order {
     Less,
@@ -825,38 +825,19 @@ pub enum Key {
     At(usize),
 }
 
-// How an exports field was resolved: as an answer, with the key that led to the target and the part of the subpath that matched.
+// How an exports field was resolved: an answer, with the key that led to the target and the part of the subpath that matched.
 pub struct Resolved {
-    pub context: Context,
-    pub path: PathBuf,
-    pub outcome: Outcome,
+    pub answer: Answer,
     pub key: Key,
     pub matched: Match,
 }
 
-fn with_key(a: Answer, key: Key, matched: Match) -> Resolved
-    ensures { λ r. ⌜ r ≡ withKey a key matched ⌝ }
-{
-    let context = a.context;
-    let path = a.path;
-    let outcome = a.outcome;
-    Resolved {
-        context,
-        path,
-        outcome,
-        key,
-        matched,
-    }
-}
-
 // An end that speaks of the subpath.
 fn unresolved(c: Context, outcome: Outcome) -> Resolved
-    ensures { λ r. ⌜ (r .context ≡ c) × (r .outcome ≡ outcome) × (r .key ≡ Key.Subpath) ⌝ }
+    ensures { λ r. ⌜ (r .answer .context ≡ c) × (r .answer .outcome ≡ outcome) × (r .key ≡ Key.Subpath) ⌝ }
 {
     Resolved {
-        context: c,
-        path: PathBuf::new(),
-        outcome,
+        answer: without_path(c, outcome),
         key: Key::Subpath,
         matched: Match::Nothing,
     }
@@ -905,7 +886,7 @@ fn pattern_resolve(
     let len = best.len;
     let rank = best.rank;
     let form = form_of(rank.starred);
-    let a = package_target_resolve(
+    let answer = package_target_resolve(
         m,
         value,
         14,
@@ -916,7 +897,11 @@ fn pattern_resolve(
         c,
         work,
     );
-    with_key(a, Key::At(key), Match::Part { start, len })
+    Resolved {
+        answer,
+        key: Key::At(key),
+        matched: Match::Part { start, len },
+    }
 }
 
 fn package_imports_exports_resolve(
@@ -938,7 +923,7 @@ fn package_imports_exports_resolve(
     match literal {
         Cursor::Nothing => pattern_resolve(m, at, settings, url, match_key, c, work),
         Cursor::At(i) => {
-            let a = package_target_resolve(
+            let answer = package_target_resolve(
                 m,
                 i,
                 14,
@@ -949,7 +934,11 @@ fn package_imports_exports_resolve(
                 c,
                 work,
             );
-            with_key(a, Key::Subpath, Match::Nothing)
+            Resolved {
+                answer,
+                key: Key::Subpath,
+                matched: Match::Nothing,
+            }
         }
     }
 }
@@ -968,12 +957,13 @@ fn keys_resolve(
     ensures { λ r. ⌜ ((ms : Members) → Stands (now (m .entry)) 15 at (obj ms) → resolvedOf (now (m .entry)) (now (url .entry)) (now (subpath .entry)) r ≡ keysOrNot (now (url .entry)) (textsOf (now (settings .entry)) 0) (now (subpath .entry)) (obj ms) (contextOf (now (m .entry)) c)) ⌝ }
 {
     let r = package_imports_exports_resolve(m, at, settings, url, subpath, c, work);
-    let outcome = r.outcome;
+    let a = r.answer;
+    let outcome = a.outcome;
     let nothing = is_nothing(outcome);
     if !nothing {
         return r;
     }
-    let context = r.context;
+    let context = a.context;
     unresolved(context, Outcome::NotExported)
 }
 
@@ -1050,13 +1040,17 @@ fn object_resolve(
         return keys_resolve(m, at, settings, url, subpath, Context::new(), work);
     }
     let subpaths = keys.subpath;
-    let a = main_resolve(m, at, subpaths, settings, url, work);
-    let outcome = a.outcome;
+    let answer = main_resolve(m, at, subpaths, settings, url, work);
+    let outcome = answer.outcome;
     let nothing = is_nothing(outcome);
     if !nothing {
-        return with_key(a, Key::Dot, Match::Nothing);
+        return Resolved {
+            answer,
+            key: Key::Dot,
+            matched: Match::Nothing,
+        };
     }
-    let context = a.context;
+    let context = answer.context;
     keys_resolve(m, at, settings, url, subpath, context, work)
 }
 
@@ -1075,7 +1069,7 @@ fn whole_resolve(
     if !text::equal(subpath, b".") {
         return unresolved(Context::new(), Outcome::NotExported);
     }
-    let a = package_target_resolve(
+    let answer = package_target_resolve(
         m,
         at,
         15,
@@ -1086,12 +1080,16 @@ fn whole_resolve(
         Context::new(),
         work,
     );
-    let outcome = a.outcome;
+    let outcome = answer.outcome;
     let nothing = is_nothing(outcome);
     if !nothing {
-        return with_key(a, Key::Dot, Match::Nothing);
+        return Resolved {
+            answer,
+            key: Key::Dot,
+            matched: Match::Nothing,
+        };
     }
-    let context = a.context;
+    let context = answer.context;
     unresolved(context, Outcome::NotExported)
 }
 
