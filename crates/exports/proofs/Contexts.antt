@@ -14,7 +14,7 @@ use Rattle.package_json.specs.Cursors.{textOf, told, orEmpty}
 use Rattle.exports.specs.declared.Part.{Part}
 use Rattle.exports.specs.declared.Context.{Context}
 use Rattle.exports.specs.Contexts.{stringAt, partText, Inside, contextOf}
-use Rattle.exports.proofs.Places.{text-read}
+use Rattle.exports.proofs.Places.{text-read, string-short}
 
 module _ (m : List ℕ) (p o : Part) (i : Inside m p) where
   pub left-old : p .len ≡ 0 → partText m o ≡ orOld (partText m p) (partText m o)
@@ -74,6 +74,9 @@ module _ (m : List ℕ) (at : ℕ) (s : List ℕ) (e : stringAt m at ≡ s) wher
 module _ (m : List ℕ) (p : Part) where
   pub part-read : (d d′ : List ℕ) (t : TextAt) (x y : List ℕ) → 1024 ≤ length d → told m d′ t ≡ textAt (drop (p .at) m) d → x ≡ orEmpty (textOf m d′ t) → y ≡ take (p .len) (drop (p .start) x) → y ≡ partText m p
   part-read d d′ t x y l e f g = g ∙ ap (λ z. take (p .len) (drop (p .start) z)) (f ∙ ap (λ z. orEmpty (z .text)) e ∙ text-read (drop (p .at) m) d l)
+
+  pub part-short : length (partText m p) ≤ 1024
+  part-short = omega (arith, length-take (p .len) (drop (p .start) (stringAt m (p .at))), length-drop (p .start) (stringAt m (p .at)), string-short m (p .at))
 
   pub no-part : p .len ≡ 0 → (w : List ℕ) → (0 ≡ length (partText m p)) × (w ≡ overwrite 0 (partText m p) w)
   unfolding overwrite

@@ -146,6 +146,13 @@ module _ (m : List ℕ) (i : ℕ) (r : kind.Kind) (e : cursors.kindOf r ≡ kind
   kind-none f d j h = none-of (let g = at.kind-here (h .here) in let z : _≡_ {A = ℕ} 0 1 = cc in omega arith)
 
 -- the text of a string, wherever one stands or none
+pub string-short : (m : List ℕ) (i : ℕ) → length (stringAt m i) ≤ 1024
+string-short m i = by (quoted (drop i m)) refl
+  where
+    by : (r : Read (List ℕ)) → quoted (drop i m) ≡ r → length (readText r) ≤ 1024
+    by (got t r) e = quoted-sound (drop i m) t r e .fits
+    by (fault f) e = omega arith
+
 pub text-read : (s w : List ℕ) → 1024 ≤ length w → orEmpty (textAt s w .text) ≡ readText (quoted s)
 unfolding textAt toldAt
 text-read s w l = by (quoted s) refl
