@@ -1,40 +1,87 @@
--- A query or a fragment put in place of the old one.
+-- Parts of a string, and a query or a fragment put in place of the old one.
 use mathlib.Core.Path.{_≡_, refl, sym, _∙_, ap}
 use mathlib.Core.List.{List, [], _∷_, _++_}
-use Prim.Native.Nat.{ℕ, suc, _+_, _-_, _<_, _≤_}
+use Prim.Native.Nat.{ℕ, zero, suc, _-_, _≤_}
 use native.Mathlib.Omega.{arith}
-use lib.ListN.{length, drop, take}
-use lib.Seq.{take-all, take-at, length-take-le}
+use lib.ListN.{length, drop, take, length-drop, length-take}
+use lib.Seq.{take-all}
 use Rattle.definition.specs.Text.{overwrite}
+use Rattle.definition.specs.JsonAt.{textAt}
 use Rattle.definition.specs.Exports as exports
 use Rattle.definition.specs.Exports.{orOld, withQueryFragment}
+use Rattle.json_text.specs.declared.TextAt.{TextAt}
+use Rattle.json_text.specs.Texts.{textOf, told, orEmpty}
+use Rattle.exports.specs.declared.Part.{Part}
+use Rattle.exports.specs.declared.Context.{Context}
+use Rattle.exports.specs.Contexts.{stringAt, partText, Inside, contextOf}
+use Rattle.exports.proofs.Places.{text-read, string-short}
 
-module _ (t : List ℕ) where
-  pub put-nothing : (old : List ℕ) → length t ≡ 0 → old ≡ orOld (take 1024 t) old
-  put-nothing old h = go t h
+module _ (m : List ℕ) (p o : Part) (i : Inside m p) where
+  pub left-old : p .len ≡ 0 → partText m o ≡ orOld (partText m p) (partText m o)
+  left-old h = go (partText m p) (i ∙ h)
     where
-      go : (t : List ℕ) → length t ≡ 0 → old ≡ orOld (take 1024 t) old
+      go : (t : List ℕ) → length t ≡ 0 → partText m o ≡ orOld t (partText m o)
       go [] h = unfold orOld in refl
       go (b ∷ t) h = let z : ⊥ = omega arith in absurd z
 
-  replaced : (old : List ℕ) → (length t ≡ 0 → ⊥) → take 1024 t ≡ orOld (take 1024 t) old
-  replaced old n = go t n
+  pub replaced : (p .len ≡ 0 → ⊥) → partText m p ≡ orOld (partText m p) (partText m o)
+  replaced n = go (partText m p) (λ h. n (sym i ∙ h))
     where
-      go : (t : List ℕ) → (length t ≡ 0 → ⊥) → take 1024 t ≡ orOld (take 1024 t) old
+      go : (t : List ℕ) → (length t ≡ 0 → ⊥) → t ≡ orOld t (partText m o)
       go [] h = absurd (h refl)
       go (b ∷ t) h = unfold orOld in refl
-
-  module _ (b w : List ℕ) (old : List ℕ) (s : length b ≡ 1024) (e : w ≡ overwrite 0 t b) (n : length t ≡ 0 → ⊥) where
-    whole : w ≡ take 1024 t ++ drop (0 + length t) b
-    unfolding overwrite
-    whole = e ∙ (let k : length b - 0 ≡ 1024 = omega arith in rw k)
-
-    pub put-short : length t < 1024 → take (length t) w ≡ orOld (take 1024 t) old
-    put-short h = let a : take 1024 t ≡ t = take-all 1024 t (omega arith) in ap (take (length t)) whole ∙ take-at (take 1024 t) (drop (0 + length t) b) (length t) (ap length a) ∙ replaced old n
-
-    pub put-long : 1024 ≤ length t → take 1024 w ≡ orOld (take 1024 t) old
-    put-long h = ap (take 1024) whole ∙ take-at (take 1024 t) (drop (0 + length t) b) 1024 (length-take-le 1024 t h) ∙ replaced old n
 
 pub both : (q f : List ℕ) (c : exports.Context) (x y : List ℕ) → x ≡ orOld q (c .query) → y ≡ orOld f (c .fragment) → record { query = x; fragment = y } ≡ withQueryFragment c q f
 unfolding withQueryFragment
 both q f c x y d e = rw (d, e)
+
+-- what a text has between two places
+take-own : (n : ℕ) (s : List ℕ) → take (length (take n s)) s ≡ take n s
+take-own zero s = refl
+take-own (suc n) [] = refl
+take-own (suc n) (b ∷ s) = ap (λ t. b ∷ t) (take-own n s)
+
+between : (q f : ℕ) (s : List ℕ) → take (length (drop q (take f s))) (drop q s) ≡ drop q (take f s)
+between zero f s = take-own f s
+between (suc q) zero [] = refl
+between (suc q) (suc f) [] = refl
+between (suc q) zero (b ∷ s) = refl
+between (suc q) (suc f) (b ∷ s) = between q f s
+
+-- the parts that the code cuts out of a string
+module _ (m : List ℕ) (at : ℕ) (s : List ℕ) (e : stringAt m at ≡ s) where
+  module _ (q f : ℕ) (g x : List ℕ) (h : g ≡ take f s) (i : x ≡ take (length s) (drop q g)) where
+    cut : x ≡ drop q (take f s)
+    cut = i ∙ ap (λ z. take (length s) (drop q z)) h ∙ take-all (length s) (drop q (take f s)) (omega (arith, length-drop q (take f s), length-take f s))
+
+    pub query-part : partText m (record { at = at; start = q; len = length x }) ≡ drop q (take f s)
+    query-part = ap (λ z. take (length z) (drop q (stringAt m at))) cut ∙ ap (λ z. take (length (drop q (take f s))) (drop q z)) e ∙ between q f s
+
+    pub query-inside : Inside m (record { at = at; start = q; len = length x })
+    query-inside = ap length (query-part ∙ sym cut)
+
+  module _ (f : ℕ) (x : List ℕ) (i : x ≡ take (length s) (drop f s)) where
+    rest : x ≡ drop f s
+    rest = i ∙ take-all (length s) (drop f s) (omega (arith, length-drop f s))
+
+    pub fragment-part : partText m (record { at = at; start = f; len = length x }) ≡ drop f s
+    fragment-part = ap (λ z. take (length z) (drop f (stringAt m at))) rest ∙ ap (λ z. take (length (drop f s)) (drop f z)) e ∙ take-all (length (drop f s)) (drop f s) (omega arith)
+
+    pub fragment-inside : Inside m (record { at = at; start = f; len = length x })
+    fragment-inside = ap length (fragment-part ∙ sym rest)
+
+-- the text of a part as the code reads it, and where it puts it
+module _ (m : List ℕ) (p : Part) where
+  pub part-read : (d d′ : List ℕ) (t : TextAt) (x y : List ℕ) → 1024 ≤ length d → told m d′ t ≡ textAt (drop (p .at) m) d → x ≡ orEmpty (textOf m d′ t) → y ≡ take (p .len) (drop (p .start) x) → y ≡ partText m p
+  part-read d d′ t x y l e f g = g ∙ ap (λ z. take (p .len) (drop (p .start) z)) (f ∙ ap (λ z. orEmpty (z .text)) e ∙ text-read (drop (p .at) m) d l)
+
+  pub part-short : length (partText m p) ≤ 1024
+  part-short = omega (arith, length-take (p .len) (drop (p .start) (stringAt m (p .at))), length-drop (p .start) (stringAt m (p .at)), string-short m (p .at))
+
+  pub no-part : p .len ≡ 0 → (w : List ℕ) → (0 ≡ length (partText m p)) × (w ≡ overwrite 0 (partText m p) w)
+  unfolding overwrite
+  no-part h w = let e : partText m p ≡ [] = rw h in (rw e, rw e (unchanged (length w - 0)))
+    where
+      unchanged : (n : ℕ) → w ≡ take n [] ++ w
+      unchanged zero = refl
+      unchanged (suc n) = refl

@@ -4,8 +4,7 @@ use mathlib.Core.Bool.{Bool, true, false, not, _&&_}
 use mathlib.Core.List.{List, [], _∷_, _++_, flatMap}
 use Prim.Native.Nat.{ℕ, zero, suc, _+_, _*_, _-_, _/_, _<_, _≤_}
 use native.Mathlib.Omega.{arith}
-use lib.ListN.{length, take, drop, getD, length-append, length-drop, length-take}
-use lib.Seq.{take-all}
+use lib.ListN.{length, take, drop, getD, length-append}
 use lib.Dec.{eqb, ltb}
 use borrow.Author.Tests.{lt-ltb}
 use Rattle.definition.specs.Text.{text, if_then_else_, hash, question, containsText, startsWith, before, from, utf8, trail}
@@ -19,11 +18,13 @@ use Rattle.path.specs.Meaning.{pathOf}
 use Rattle.specifier.specs.declared.Specifier as answer
 use Rattle.specifier.specs.Meaning.{parts, noPath, partsOf, meant}
 use Rattle.specifier.proofs.Parsed.{body-take, body-inside}
+use Rattle.exports.specs.declared.Part.{Part}
 use Rattle.exports.specs.declared.Context.{Context}
 use Rattle.exports.specs.declared.Outcome.the-variants.{Empty, InvalidTarget}
-use Rattle.exports.specs.Contexts.{contextOf}
+use Rattle.exports.specs.Contexts.{stringAt, partText, Inside, contextOf}
 use Rattle.exports.specs.Answers.{pathText, outcomeIn, resolved}
 use Rattle.exports.proofs.Targets.{path-text}
+use Rattle.exports.proofs.Contexts.{query-part, query-inside, fragment-part, fragment-inside}
 
 -- a path of bytes is at most twice as long as its specifier
 abbrev pub Bytes : List ℕ → Type 0
@@ -104,43 +105,38 @@ module _ (s : List ℕ) (r : answer.Specifier) (e : meant s r ≡ partsOf (parse
       go (parsed p q f) i g = record { path = p; is = cc; limits = cc }
       go emptySpecifier i g = absurd (let o : _≡_ {A = ℕ} 0 1 = cc in omega arith)
 
-  module _ (q : Request) (c : Context) (l : length s ≤ 1024) where
-    pub string-empty : r .empty ≡ true → (p : PathBuf) → pathOf p ≡ limited s → resolved c (outcomeIn (q .packageURL) (q .key) (q .matched) Empty (pathText p)) ≡ stringTarget q (parseSpecifier s) s (contextOf c)
+  module _ (m : List ℕ) (q : Request) (c : Context) (l : length s ≤ 1024) where
+    pub string-empty : r .empty ≡ true → (p : PathBuf) → pathOf p ≡ limited s → resolved m c (outcomeIn (q .packageURL) (q .key) (q .matched) Empty (pathText p)) ≡ stringTarget q (parseSpecifier s) s (contextOf m c)
     unfolding stringTarget
     string-empty h p f = rw (is-empty h, path-text p s f (omega arith))
 
     module _ (b : Bytes s) (h : r .empty ≡ false) (d : Context)
-        (w : contextOf d ≡ withQueryFragment (contextOf c) (take 1024 (take (length s) (drop (r .query) (take (r .fragment) s)))) (take 1024 (take (length s) (drop (r .fragment) s))))
+        (w : contextOf m d ≡ withQueryFragment (contextOf m c) (drop (r .query) (take (r .fragment) s)) (drop (r .fragment) s))
         (t : List ℕ) (f : t ≡ pathText (r .path)) where
-      all-of : (x : List ℕ) → length x ≤ length s → take 1024 (take (length s) x) ≡ x
-      all-of x k = ap (take 1024) (take-all (length s) x k) ∙ take-all 1024 x (omega arith)
-
-      query-is : take 1024 (take (length s) (drop (r .query) (take (r .fragment) s))) ≡ drop (r .query) (take (r .fragment) s)
-      query-is = all-of (drop (r .query) (take (r .fragment) s)) (omega (arith, length-drop (r .query) (take (r .fragment) s), length-take (r .fragment) s))
-
-      fragment-is : take 1024 (take (length s) (drop (r .fragment) s)) ≡ drop (r .fragment) s
-      fragment-is = all-of (drop (r .fragment) s) (omega (arith, length-drop (r .fragment) s))
-
-      context-is : contextOf d ≡ withQueryFragment (contextOf c) (drop (r .query) (take (r .fragment) s)) (drop (r .fragment) s)
-      context-is = w ∙ ap (λ x. withQueryFragment (contextOf c) x (take 1024 (take (length s) (drop (r .fragment) s)))) query-is ∙ ap (λ x. withQueryFragment (contextOf c) (drop (r .query) (take (r .fragment) s)) x) fragment-is
-
       text-is : t ≡ is-parsed h .path
       text-is = let p = is-parsed h in f ∙ path-text (r .path) (p .path) (p .limits) (omega (arith, parsed-size s (p .path) (drop (r .query) (take (r .fragment) s)) (drop (r .fragment) s) b (p .is)))
 
-      whole : (o : exports.Outcome) → o ≡ (if startsWith (text "./") t then targetPath q (normalizeStringTarget (q .key) t (q .matched)) else invalidTarget q t) → resolved d o ≡ stringTarget q (parseSpecifier s) s (contextOf c)
+      whole : (o : exports.Outcome) → o ≡ (if startsWith (text "./") t then targetPath q (normalizeStringTarget (q .key) t (q .matched)) else invalidTarget q t) → resolved m d o ≡ stringTarget q (parseSpecifier s) s (contextOf m c)
       unfolding stringTarget
-      whole o g = rw (is-parsed h .is, context-is, g, text-is)
+      whole o g = rw (is-parsed h .is, w, g, text-is)
 
-      pub string-valid : startsWith (text "./") t ≡ true → resolved d (targetPath q (normalizeStringTarget (q .key) t (q .matched))) ≡ stringTarget q (parseSpecifier s) s (contextOf c)
+      pub string-valid : startsWith (text "./") t ≡ true → resolved m d (targetPath q (normalizeStringTarget (q .key) t (q .matched))) ≡ stringTarget q (parseSpecifier s) s (contextOf m c)
       string-valid g = whole _ (rw g)
 
-      pub string-invalid : startsWith (text "./") t ≡ false → resolved d (outcomeIn (q .packageURL) (q .key) (q .matched) InvalidTarget (pathText (r .path))) ≡ stringTarget q (parseSpecifier s) s (contextOf c)
+      pub string-invalid : startsWith (text "./") t ≡ false → resolved m d (outcomeIn (q .packageURL) (q .key) (q .matched) InvalidTarget (pathText (r .path))) ≡ stringTarget q (parseSpecifier s) s (contextOf m c)
       unfolding invalidTarget
       string-invalid g = whole _ (rw g (ap (invalidTarget q) (sym f)))
 
--- the context from the slices that the code cuts out
-pub context-of : (y x : exports.Context) (a b f s : List ℕ) (n q k : ℕ) → y ≡ withQueryFragment x (take 1024 a) (take 1024 b) → a ≡ take n (drop q f) → f ≡ take k s → b ≡ take n (drop k s)
-    → y ≡ withQueryFragment x (take 1024 (take n (drop q (take k s)))) (take 1024 (take n (drop k s)))
-context-of y x a b f s n q k e g h i =
-    e ∙ ap (λ z. withQueryFragment x (take 1024 z) (take 1024 b)) (g ∙ ap (λ z. take n (drop q z)) h)
-    ∙ ap (λ z. withQueryFragment x (take 1024 (take n (drop q (take k s)))) (take 1024 z)) i
+-- the context from the parts that the code cuts out
+module _ (m : List ℕ) (at : ℕ) (s : List ℕ) (i : stringAt m at ≡ s) (q f : ℕ) (g x y : List ℕ) (h : g ≡ take f s) (j : x ≡ take (length s) (drop q g)) (k : y ≡ take (length s) (drop f s)) (c d : Context) where
+  abbrev queryOf : Part
+  queryOf = record { at = at; start = q; len = length x }
+
+  abbrev fragmentOf : Part
+  fragmentOf = record { at = at; start = f; len = length y }
+
+  pub context-of : (Inside m queryOf → Inside m fragmentOf → contextOf m d ≡ withQueryFragment (contextOf m c) (partText m queryOf) (partText m fragmentOf)) → contextOf m d ≡ withQueryFragment (contextOf m c) (drop q (take f s)) (drop f s)
+  context-of w =
+      w (query-inside m at s i q f g x h j) (fragment-inside m at s i f y k)
+      ∙ ap (λ z. withQueryFragment (contextOf m c) z (partText m fragmentOf)) (query-part m at s i q f g x h j)
+      ∙ ap (λ z. withQueryFragment (contextOf m c) (drop q (take f s)) z) (fragment-part m at s i f y k)

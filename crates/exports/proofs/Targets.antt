@@ -20,21 +20,17 @@ use Rattle.exports.specs.declared.Form.{Form}
 use Rattle.exports.specs.declared.Form.the-variants.{Plain, Starred, Folder}
 use Rattle.exports.specs.declared.Outcome.{Outcome}
 use Rattle.exports.specs.declared.Outcome.the-variants.{InvalidTarget, OverLong, ConfigDirectory}
-use Rattle.exports.specs.declared.Located.{Located}
 use Rattle.exports.specs.declared.Answer.{Answer}
-use Rattle.exports.specs.Answers.{pathText, outcomeIn, locatedOf, answerOf, resolved, Formed, Asked}
+use Rattle.exports.specs.Answers.{pathText, outcomeIn, answerOf, resolved, Formed, Asked}
 
 clash : {P : Type 0} {x : List ℕ} → built x ≡ tooLong → P
 clash e = absurd (let z : _≡_ {A = ℕ} 0 1 = cc in omega arith)
 
 -- an answer without a path
-pub outcome-is : (q : Request) (r : Answer) (c : Context) (o : Outcome) → (r .context ≡ c) × (r .outcome ≡ o) → answerOf q r ≡ resolved c (outcomeIn (q .packageURL) (q .key) (q .matched) o (pathText (r .path)))
-outcome-is q r c o e =
-    ap (λ x. resolved x (outcomeIn (q .packageURL) (q .key) (q .matched) (r .outcome) (pathText (r .path)))) (e .0)
-    ∙ ap (λ x. resolved c (outcomeIn (q .packageURL) (q .key) (q .matched) x (pathText (r .path)))) (e .1)
-
-pub located-is : (q : Request) (r : Located) (o : Outcome) → r .outcome ≡ o → locatedOf q r ≡ outcomeIn (q .packageURL) (q .key) (q .matched) o (pathText (r .path))
-located-is q r o e = ap (λ x. outcomeIn (q .packageURL) (q .key) (q .matched) x (pathText (r .path))) e
+pub outcome-is : (m : List ℕ) (q : Request) (r : Answer) (c : Context) (o : Outcome) → (r .context ≡ c) × (r .outcome ≡ o) → answerOf m q r ≡ resolved m c (outcomeIn (q .packageURL) (q .key) (q .matched) o (pathText (r .path)))
+outcome-is m q r c o e =
+    ap (λ x. resolved m x (outcomeIn (q .packageURL) (q .key) (q .matched) (r .outcome) (pathText (r .path)))) (e .0)
+    ∙ ap (λ x. resolved m c (outcomeIn (q .packageURL) (q .key) (q .matched) x (pathText (r .path)))) (e .1)
 
 -- a text under the limit
 limited-fits : (t : List ℕ) → length t ≤ 2048 → limited t ≡ built t

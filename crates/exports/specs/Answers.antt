@@ -20,7 +20,6 @@ use Rattle.exports.specs.declared.Form.{Form}
 use Rattle.exports.specs.declared.Form.the-variants.{Plain, Starred, Folder}
 use Rattle.exports.specs.declared.Outcome.{Outcome}
 use Rattle.exports.specs.declared.Outcome.the-variants.{Found, Nothing, Empty, InvalidTarget, NotExportedMatch, NotExported, ConfigMixed, ConfigDirectory, OverLong}
-use Rattle.exports.specs.declared.Located.{Located}
 use Rattle.exports.specs.declared.Answer.{Answer}
 use Rattle.exports.specs.Contexts.{contextOf}
 
@@ -40,18 +39,11 @@ outcomeIn url key matched ConfigMixed t = failed (InvalidPackageConfig (manifest
 outcomeIn url key matched ConfigDirectory t = failed (InvalidPackageConfigDirectory (manifestOf url))
 outcomeIn url key matched OverLong t = overlong
 
-abbrev pub locatedOf : Request → Located → exports.Outcome
-locatedOf q r = outcomeIn (q .packageURL) (q .key) (q .matched) (r .outcome) (pathText (r .path))
+abbrev pub resolved : (m : List ℕ) → Context → exports.Outcome → exports.Resolved
+resolved m c o = record { context = contextOf m c; outcome = o }
 
-abbrev pub answerOf : Request → Answer → exports.Resolved
-answerOf q r =
-    record {
-      context = contextOf (r .context);
-      outcome = outcomeIn (q .packageURL) (q .key) (q .matched) (r .outcome) (pathText (r .path));
-    }
-
-abbrev pub resolved : Context → exports.Outcome → exports.Resolved
-resolved c o = record { context = contextOf c; outcome = o }
+abbrev pub answerOf : (m : List ℕ) → Request → Answer → exports.Resolved
+answerOf m q r = resolved m (r .context) (outcomeIn (q .packageURL) (q .key) (q .matched) (r .outcome) (pathText (r .path)))
 
 -- a request, as far as it decides what a target gives
 abbrev pub Formed : Request → Form → (pattern : List ℕ) → Type 0
@@ -70,7 +62,7 @@ pub record Requested (q : Request) (settings url : List ℕ) (form : Form) (patt
 
 -- a target of the manifest m was resolved
 pub record Resolves (m : List ℕ) (at depth : ℕ) (settings url : List ℕ) (form : Form) (pattern : List ℕ) (c : Context) (r : Answer) : Type 0 where
-  pub is : (q : Request) → Requested q settings url form pattern → (j : Json) → Stands m depth at j → answerOf q r ≡ PACKAGE-TARGET-RESOLVE q j (contextOf c)
+  pub is : (q : Request) → Requested q settings url form pattern → (j : Json) → Stands m depth at j → answerOf m q r ≡ PACKAGE-TARGET-RESOLVE q j (contextOf m c)
 
 -- which answers let the next condition, or the next element, be tried
 abbrev pub isNothing : Outcome → Bool

@@ -6,12 +6,10 @@ use mathlib.Core.List.{List, []}
 use mathlib.Core.Option.{Option, none, some}
 use lib.ListN.{drop, take}
 use Rattle.definition.specs.Text.{text}
-use Rattle.definition.specs.Json.{Json, scalar, str, arr, obj, Read, got, fault, quoted}
+use Rattle.definition.specs.Json.{Json, scalar, str, arr, obj, got, quoted}
 use Rattle.definition.specs.Exports as exports
 use Rattle.definition.specs.Exports.{Entry, anyKey, isDotKey, isSubpathKey, patternMatch, Request, orGoOn, keyResolve, pathNotExported}
 use Rattle.exports.specs.Places.{Stands}
-use Rattle.exports.specs.declared.Answer.{Answer}
-use Rattle.exports.specs.declared.Match.{Match}
 use Rattle.exports.specs.declared.Form.{Form}
 use Rattle.exports.specs.declared.Form.the-variants.{Starred, Folder}
 use Rattle.exports.specs.declared.KeyMarks.{KeyMarks}
@@ -20,7 +18,7 @@ use Rattle.exports.specs.declared.Key.{Key}
 use Rattle.exports.specs.declared.Key.the-variants.{Dot, Subpath, At}
 use Rattle.exports.specs.declared.Resolved.{Resolved}
 use Rattle.exports.specs.Keys.{rankOf, matchOf}
-use Rattle.exports.specs.Contexts.{contextOf}
+use Rattle.exports.specs.Contexts.{stringAt, contextOf}
 use Rattle.exports.specs.Answers.{pathText, outcomeIn}
 
 -- what one key begins with, and the keys of some members
@@ -50,25 +48,17 @@ abbrev pub formOf : Bool → Form
 formOf true = Starred
 formOf false = Folder
 
--- an answer with the key that led to the target and the match
-abbrev pub withKey : Answer → Key → Match → Resolved
-withKey a k x = record { context = a .context; path = a .path; outcome = a .outcome; key = k; matched = x }
-
 -- the text of the key
-abbrev pub readText : Read (List ℕ) → List ℕ
-readText (got k s) = k
-readText (fault f) = []
-
 abbrev pub keyText : (m subpath : List ℕ) → Key → List ℕ
 keyText m subpath Dot = text "."
 keyText m subpath Subpath = subpath
-keyText m subpath (At i) = readText (quoted (drop i m))
+keyText m subpath (At i) = stringAt m i
 
 abbrev pub resolvedOf : (m url subpath : List ℕ) → Resolved → exports.Resolved
 resolvedOf m url subpath r =
     record {
-      context = contextOf (r .context);
-      outcome = outcomeIn url (keyText m subpath (r .key)) (matchOf subpath (r .matched)) (r .outcome) (pathText (r .path));
+      context = contextOf m (r .answer .context);
+      outcome = outcomeIn url (keyText m subpath (r .key)) (matchOf subpath (r .matched)) (r .answer .outcome) (pathText (r .answer .path));
     }
 
 -- no query and no fragment yet

@@ -8,7 +8,7 @@ ghost use Prim.Native.Nat.{ℕ, _+_, _-_, _≤_, _<_, suc};
 ghost use lib.ListN.{length, drop, take};
 ghost use mathlib.Core.Bool.{_&&_, _||_};
 ghost use lib.Dec.{leb};
-ghost use Rattle.definition.specs.Text.{text, star, equal, endsWith, isOneOf, replace};
+ghost use Rattle.definition.specs.Text.{text, star, equal, endsWith, isOneOf, replace, overwrite};
 ghost use Rattle.definition.specs.Settings.{textsOf, settingsOf};
 ghost use mathlib.Core.Option.{Option, none};
 ghost use Rattle.definition.specs.Json.{Json, str, arr, obj, Members, member, Elements, element, got, quoted};
@@ -19,9 +19,9 @@ ghost use Rattle.path.specs.Meaning.{pathOf};
 ghost use Rattle.definition.specs.Exports.{PATTERN-KEY-COMPARE, isSubpathKey, starMatch, patternMatch, orOld, withQueryFragment, Request, target, targetPath, normalizeStringTarget, stringTarget, isDotKey, anyKey, Entry, entries, get as getOf, better as betterOf, best as bestOf, literal, bestResolve, mainExport, mainResolve, PACKAGE-IMPORTS-EXPORTS-RESOLVE, PACKAGE-EXPORTS-RESOLVE};
 ghost use Rattle.definition.specs.Specifier.{parseSpecifier};
 ghost use Rattle.exports.specs.Keys.{rankOf, orderOf, matchOf};
-ghost use Rattle.exports.specs.Contexts.{contextOf};
-ghost use Rattle.exports.specs.Answers.{answerOf, locatedOf, Asked, isNothing, isFinal, isSome, isPassed, Resolves};
-ghost use Rattle.exports.specs.Chosen.{aKey, joinedKeys, keysOf, BestOf, formOf, withKey, resolvedOf, fresh, dotRequest, keysOrNot, IsWhole};
+ghost use Rattle.exports.specs.Contexts.{stringAt, partText, Inside, contextOf};
+ghost use Rattle.exports.specs.Answers.{answerOf, resolved, Asked, isNothing, isFinal, isSome, isPassed, Resolves};
+ghost use Rattle.exports.specs.Chosen.{aKey, joinedKeys, keysOf, BestOf, formOf, resolvedOf, fresh, dotRequest, keysOrNot, IsWhole};
 
 pub enum Order {
     Less,
@@ -156,51 +156,70 @@ pub fn pattern_match(match_key: &[u8], key: &[u8]) -> Match
     }
 }
 
-// context.rs: the query and the fragment so far.
-pub struct Context {
-    pub query: [u8; 1024],
-    pub qlen: usize,
-    pub fragment: [u8; 1024],
-    pub flen: usize,
+// A part of a string of the manifest: the string's place, and where in its decoded text the part begins.
+pub struct Part {
+    pub at: usize,
+    pub start: usize,
+    pub len: usize,
 }
 
-// Puts a text at the start, as far as there is room; an empty one leaves the first n bytes.
-fn put(b: &mut [u8; 1024], n: usize, t: &[u8]) -> usize
-    requires { ⌜ length (now b) ≡ 1024 ⌝ }
-    ensures { λ r. ⌜ take r (now (b .exit)) ≡ orOld (take 1024 (now (t .entry))) (take n (now (b .entry))) ⌝ }
+// context.rs: the query and the fragment so far, each a part of the target it came from. One of length 0 is none.
+pub struct Context {
+    pub query: Part,
+    pub fragment: Part,
+}
+
+fn or_old(part: Part, old: Part) -> Part
+    ensures { λ r. ⌜ ((m : List ℕ) → Inside m part → partText m r ≡ orOld (partText m part) (partText m old)) ⌝ }
 {
-    if t.len() == 0 {
-        return n;
+    if part.len == 0 {
+        return old;
     }
-    text::copy_at(b, 0, t);
-    if t.len() < 1024 {
-        return t.len();
-    }
-    1024
+    part
 }
 
 impl Context {
     pub fn new() -> Context
-        ensures { λ r. ⌜ contextOf r ≡ record { query = []; fragment = [] } ⌝ }
+        ensures { λ r. ⌜ ((m : List ℕ) → contextOf m r ≡ record { query = []; fragment = [] }) ⌝ }
     {
         Context {
-            query: [0u8; 1024],
-            qlen: 0,
-            fragment: [0u8; 1024],
-            flen: 0,
+            query: Part {
+                at: 0,
+                start: 0,
+                len: 0,
+            },
+            fragment: Part {
+                at: 0,
+                start: 0,
+                len: 0,
+            },
         }
     }
 
-    // A new one replaces the old, and a missing one leaves it. A target has at most 1,024 bytes; of longer texts the first 1,024 are taken.
-    pub fn with_query_fragment(mut self, query: &[u8], fragment: &[u8]) -> Context
-        ensures { λ r. ⌜ contextOf r ≡ withQueryFragment (contextOf self) (take 1024 (now (query .entry))) (take 1024 (now (fragment .entry))) ⌝ }
+    // A new one replaces the old, and a missing one leaves it.
+    pub fn with_query_fragment(self, query: Part, fragment: Part) -> Context
+        ensures { λ r. ⌜ ((m : List ℕ) → Inside m query → Inside m fragment → contextOf m r ≡ withQueryFragment (contextOf m self) (partText m query) (partText m fragment)) ⌝ }
     {
-        let n = self.qlen;
-        self.qlen = put(&mut self.query, n, query);
-        let k = self.flen;
-        self.flen = put(&mut self.fragment, k, fragment);
-        self
+        Context {
+            query: or_old(query, self.query),
+            fragment: or_old(fragment, self.fragment),
+        }
     }
+}
+
+// Puts the text of a part at the start of w, as far as there is room. The answer is the text's length.
+pub fn part_text(m: &[u8], p: Part, w: &mut [u8]) -> usize
+    ensures { λ r. ⌜ r ≡ length (partText (now (m .entry)) p) ⌝ }
+    ensures { λ r. ⌜ now (w .exit) ≡ overwrite 0 (partText (now (m .entry)) p) (now (w .entry)) ⌝ }
+{
+    if p.len == 0 {
+        return 0;
+    }
+    let mut decoded = [0u8; 1024];
+    let t = package_json::read_text(m, p.at, &mut decoded);
+    let part = text::part(package_json::text_at(m, &decoded, t), p.start, p.len);
+    text::copy_at(w, 0, part);
+    part.len()
 }
 
 // The target with every star replaced by the pattern match.
@@ -268,88 +287,75 @@ fn without_path(c: Context, outcome: Outcome) -> Answer
     }
 }
 
-// What a target gives, apart from the context: only the answer carries that.
-struct Located {
-    path: PathBuf,
-    outcome: Outcome,
-}
-
-fn unlocated(outcome: Outcome) -> Located
-    ensures { λ r. ⌜ r .outcome ≡ outcome ⌝ }
-{
-    Located {
-        path: PathBuf::new(),
-        outcome,
-    }
-}
-
 // A target, with the match put in, below the package's directory.
-fn target_path(url: &[u8], t: &[u8]) -> Located
-    ensures { λ r. ⌜ ((q : Request) → q .packageURL ≡ now (url .entry) → locatedOf q r ≡ targetPath q (target (now (t .entry)))) ⌝ }
+fn target_path(url: &[u8], t: &[u8], c: Context) -> Answer
+    ensures { λ r. ⌜ ((m : List ℕ) (q : Request) → q .packageURL ≡ now (url .entry) → answerOf m q r ≡ resolved m c (targetPath q (target (now (t .entry))))) ⌝ }
 {
     if t.len() > 2048 {
-        return unlocated(Outcome::OverLong);
+        return without_path(c, Outcome::OverLong);
     }
     if path::is_invalid_exports_target(t) {
-        return Located {
+        return Answer {
+            context: c,
             path: PathBuf::from(t),
             outcome: Outcome::InvalidTarget,
         };
     }
     let path = path::normalize_with(url, t);
     if path.len > 2048 {
-        return unlocated(Outcome::OverLong);
+        return without_path(c, Outcome::OverLong);
     }
-    Located {
+    Answer {
+        context: c,
         path,
         outcome: Outcome::Found,
     }
 }
 
-fn starred_target(url: &[u8], t: &[u8], pattern: &[u8]) -> Located
-    ensures { λ r. ⌜ ((q : Request) → q .packageURL ≡ now (url .entry) → locatedOf q r ≡ targetPath q (target (replace star (now (pattern .entry)) (now (t .entry))))) ⌝ }
+fn starred_target(url: &[u8], t: &[u8], pattern: &[u8], c: Context) -> Answer
+    ensures { λ r. ⌜ ((m : List ℕ) (q : Request) → q .packageURL ≡ now (url .entry) → answerOf m q r ≡ resolved m c (targetPath q (target (replace star (now (pattern .entry)) (now (t .entry)))))) ⌝ }
 {
     let p = substitute(t, pattern);
     let n = p.len;
     if n > 2048 {
-        return unlocated(Outcome::OverLong);
+        return without_path(c, Outcome::OverLong);
     }
-    target_path(url, path::first(&p.bytes, n))
+    target_path(url, path::first(&p.bytes, n), c)
 }
 
-fn folder_target(url: &[u8], t: &[u8], pattern: &[u8]) -> Located
-    ensures { λ r. ⌜ ((q : Request) → q .packageURL ≡ now (url .entry) → locatedOf q r ≡ targetPath q (target (now (t .entry) ++ now (pattern .entry)))) ⌝ }
+fn folder_target(url: &[u8], t: &[u8], pattern: &[u8], c: Context) -> Answer
+    ensures { λ r. ⌜ ((m : List ℕ) (q : Request) → q .packageURL ≡ now (url .entry) → answerOf m q r ≡ resolved m c (targetPath q (target (now (t .entry) ++ now (pattern .entry))))) ⌝ }
 {
     let p = PathBuf::from(t).append(pattern);
     let n = p.len;
     if n > 2048 {
-        return unlocated(Outcome::OverLong);
+        return without_path(c, Outcome::OverLong);
     }
-    target_path(url, path::first(&p.bytes, n))
+    target_path(url, path::first(&p.bytes, n), c)
 }
 
 // `normalize_string_target`, and what it gives.
-fn normalized_target(url: &[u8], form: Form, pattern: &[u8], t: &[u8]) -> Located
-    ensures { λ r. ⌜ ((q : Request) → Asked q (now (url .entry)) form (now (pattern .entry)) → locatedOf q r ≡ targetPath q (normalizeStringTarget (q .key) (now (t .entry)) (q .matched))) ⌝ }
+fn normalized_target(url: &[u8], form: Form, pattern: &[u8], t: &[u8], c: Context) -> Answer
+    ensures { λ r. ⌜ ((m : List ℕ) (q : Request) → Asked q (now (url .entry)) form (now (pattern .entry)) → answerOf m q r ≡ resolved m c (targetPath q (normalizeStringTarget (q .key) (now (t .entry)) (q .matched)))) ⌝ }
 {
     match form {
-        Form::Plain => target_path(url, t),
-        Form::Starred => starred_target(url, t, pattern),
+        Form::Plain => target_path(url, t, c),
+        Form::Starred => starred_target(url, t, pattern, c),
         Form::Folder => {
             if text::contains(t, b'*') {
-                return starred_target(url, t, pattern);
+                return starred_target(url, t, pattern, c);
             }
             if text::ends_with(t, b"/") {
-                return folder_target(url, t, pattern);
+                return folder_target(url, t, pattern, c);
             }
-            unlocated(Outcome::ConfigDirectory)
+            without_path(c, Outcome::ConfigDirectory)
         }
     }
 }
 
-// A string as a target, which has at most 1,024 bytes.
-fn text_target(url: &[u8], form: Form, pattern: &[u8], s: &[u8], c: Context) -> Answer
-    ensures { λ r. ⌜ ((q : Request) → Asked q (now (url .entry)) form (now (pattern .entry)) → length (now (s .entry)) ≤ 1024 → answerOf q r ≡ stringTarget q (parseSpecifier (now (s .entry))) (now (s .entry)) (contextOf c)) ⌝ }
+// The text of the string at a place as a target, which has at most 1,024 bytes.
+fn text_target(url: &[u8], form: Form, pattern: &[u8], s: &[u8], at: usize, c: Context) -> Answer
+    ensures { λ r. ⌜ ((m : List ℕ) (q : Request) → Asked q (now (url .entry)) form (now (pattern .entry)) → length (now (s .entry)) ≤ 1024 → stringAt m at ≡ now (s .entry) → answerOf m q r ≡ stringTarget q (parseSpecifier (now (s .entry))) (now (s .entry)) (contextOf m c)) ⌝ }
 {
     let parsed = Specifier::parse(s);
     if parsed.empty {
@@ -359,28 +365,29 @@ fn text_target(url: &[u8], form: Form, pattern: &[u8], s: &[u8], c: Context) -> 
             outcome: Outcome::Empty,
         };
     }
-    let query = parsed.query;
-    let fragment = parsed.fragment;
+    let start = parsed.query;
+    let end = parsed.fragment;
+    let query = text::part(path::first(s, end), start, s.len());
+    let fragment = text::part(s, end, s.len());
     let context = c.with_query_fragment(
-        text::part(path::first(s, fragment), query, s.len()),
-        text::part(s, fragment, s.len()),
+        Part {
+            at,
+            start,
+            len: query.len(),
+        },
+        Part {
+            at,
+            start: end,
+            len: fragment.len(),
+        },
     );
-    let path = parsed.path;
-    let n = path.len;
-    let t = path::first(&path.bytes, n);
+    let t = path::first(&parsed.path.bytes, parsed.path.len);
     if text::starts_with(t, b"./") {
-        let located = normalized_target(url, form, pattern, t);
-        let path = located.path;
-        let outcome = located.outcome;
-        return Answer {
-            context,
-            path,
-            outcome,
-        };
+        return normalized_target(url, form, pattern, t, context);
     }
     Answer {
         context,
-        path,
+        path: parsed.path,
         outcome: Outcome::InvalidTarget,
     }
 }
@@ -470,10 +477,10 @@ fn string_target(
     work: &mut [u8],
 ) -> Answer
     requires { ⌜ 1024 ≤ length (now work) ⌝ }
-    ensures { λ r. ⌜ ((q : Request) (d : ℕ) (s : List ℕ) → Asked q (now (url .entry)) form (now (pattern .entry)) → Stands (now (m .entry)) d at (str s) → answerOf q r ≡ stringTarget q (parseSpecifier s) s (contextOf c)) ⌝ }
+    ensures { λ r. ⌜ ((q : Request) (d : ℕ) (s : List ℕ) → Asked q (now (url .entry)) form (now (pattern .entry)) → Stands (now (m .entry)) d at (str s) → answerOf (now (m .entry)) q r ≡ stringTarget q (parseSpecifier s) s (contextOf (now (m .entry)) c)) ⌝ }
 {
     let t = package_json::read_text(m, at, work);
-    text_target(url, form, pattern, package_json::text_at(m, work, t), c)
+    text_target(url, form, pattern, package_json::text_at(m, work, t), at, c)
 }
 
 // Whether the condition holds that the member at a place names.
@@ -818,38 +825,19 @@ pub enum Key {
     At(usize),
 }
 
-// How an exports field was resolved: as an answer, with the key that led to the target and the part of the subpath that matched.
+// How an exports field was resolved: an answer, with the key that led to the target and the part of the subpath that matched.
 pub struct Resolved {
-    pub context: Context,
-    pub path: PathBuf,
-    pub outcome: Outcome,
+    pub answer: Answer,
     pub key: Key,
     pub matched: Match,
 }
 
-fn with_key(a: Answer, key: Key, matched: Match) -> Resolved
-    ensures { λ r. ⌜ r ≡ withKey a key matched ⌝ }
-{
-    let context = a.context;
-    let path = a.path;
-    let outcome = a.outcome;
-    Resolved {
-        context,
-        path,
-        outcome,
-        key,
-        matched,
-    }
-}
-
 // An end that speaks of the subpath.
 fn unresolved(c: Context, outcome: Outcome) -> Resolved
-    ensures { λ r. ⌜ (r .context ≡ c) × (r .outcome ≡ outcome) × (r .key ≡ Key.Subpath) ⌝ }
+    ensures { λ r. ⌜ (r .answer .context ≡ c) × (r .answer .outcome ≡ outcome) × (r .key ≡ Key.Subpath) ⌝ }
 {
     Resolved {
-        context: c,
-        path: PathBuf::new(),
-        outcome,
+        answer: without_path(c, outcome),
         key: Key::Subpath,
         matched: Match::Nothing,
     }
@@ -885,7 +873,7 @@ fn pattern_resolve(
     work: &mut [u8],
 ) -> Resolved
     requires { ⌜ 1024 ≤ length (now work) ⌝ }
-    ensures { λ r. ⌜ ((ms : Members) → Stands (now (m .entry)) 15 at (obj ms) → resolvedOf (now (m .entry)) (now (url .entry)) (now («match_key» .entry)) r ≡ bestResolve (now (url .entry)) (textsOf (now (settings .entry)) 0) (now («match_key» .entry)) (bestOf (now («match_key» .entry)) none (entries ms)) (contextOf c)) ⌝ }
+    ensures { λ r. ⌜ ((ms : Members) → Stands (now (m .entry)) 15 at (obj ms) → resolvedOf (now (m .entry)) (now (url .entry)) (now («match_key» .entry)) r ≡ bestResolve (now (url .entry)) (textsOf (now (settings .entry)) 0) (now («match_key» .entry)) (bestOf (now («match_key» .entry)) none (entries ms)) (contextOf (now (m .entry)) c)) ⌝ }
 {
     let best = best_key(m, at, match_key, work);
     let found = best.found;
@@ -898,7 +886,7 @@ fn pattern_resolve(
     let len = best.len;
     let rank = best.rank;
     let form = form_of(rank.starred);
-    let a = package_target_resolve(
+    let answer = package_target_resolve(
         m,
         value,
         14,
@@ -909,7 +897,11 @@ fn pattern_resolve(
         c,
         work,
     );
-    with_key(a, Key::At(key), Match::Part { start, len })
+    Resolved {
+        answer,
+        key: Key::At(key),
+        matched: Match::Part { start, len },
+    }
 }
 
 fn package_imports_exports_resolve(
@@ -922,7 +914,7 @@ fn package_imports_exports_resolve(
     work: &mut [u8],
 ) -> Resolved
     requires { ⌜ 1024 ≤ length (now work) ⌝ }
-    ensures { λ r. ⌜ ((ms : Members) → Stands (now (m .entry)) 15 at (obj ms) → resolvedOf (now (m .entry)) (now (url .entry)) (now («match_key» .entry)) r ≡ PACKAGE-IMPORTS-EXPORTS-RESOLVE (now (url .entry)) (textsOf (now (settings .entry)) 0) (now («match_key» .entry)) (entries ms) (contextOf c)) ⌝ }
+    ensures { λ r. ⌜ ((ms : Members) → Stands (now (m .entry)) 15 at (obj ms) → resolvedOf (now (m .entry)) (now (url .entry)) (now («match_key» .entry)) r ≡ PACKAGE-IMPORTS-EXPORTS-RESOLVE (now (url .entry)) (textsOf (now (settings .entry)) 0) (now («match_key» .entry)) (entries ms) (contextOf (now (m .entry)) c)) ⌝ }
 {
     if text::ends_with(match_key, b"/") {
         return unresolved(c, Outcome::Nothing);
@@ -931,7 +923,7 @@ fn package_imports_exports_resolve(
     match literal {
         Cursor::Nothing => pattern_resolve(m, at, settings, url, match_key, c, work),
         Cursor::At(i) => {
-            let a = package_target_resolve(
+            let answer = package_target_resolve(
                 m,
                 i,
                 14,
@@ -942,7 +934,11 @@ fn package_imports_exports_resolve(
                 c,
                 work,
             );
-            with_key(a, Key::Subpath, Match::Nothing)
+            Resolved {
+                answer,
+                key: Key::Subpath,
+                matched: Match::Nothing,
+            }
         }
     }
 }
@@ -958,15 +954,16 @@ fn keys_resolve(
     work: &mut [u8],
 ) -> Resolved
     requires { ⌜ 1024 ≤ length (now work) ⌝ }
-    ensures { λ r. ⌜ ((ms : Members) → Stands (now (m .entry)) 15 at (obj ms) → resolvedOf (now (m .entry)) (now (url .entry)) (now (subpath .entry)) r ≡ keysOrNot (now (url .entry)) (textsOf (now (settings .entry)) 0) (now (subpath .entry)) (obj ms) (contextOf c)) ⌝ }
+    ensures { λ r. ⌜ ((ms : Members) → Stands (now (m .entry)) 15 at (obj ms) → resolvedOf (now (m .entry)) (now (url .entry)) (now (subpath .entry)) r ≡ keysOrNot (now (url .entry)) (textsOf (now (settings .entry)) 0) (now (subpath .entry)) (obj ms) (contextOf (now (m .entry)) c)) ⌝ }
 {
     let r = package_imports_exports_resolve(m, at, settings, url, subpath, c, work);
-    let outcome = r.outcome;
+    let a = r.answer;
+    let outcome = a.outcome;
     let nothing = is_nothing(outcome);
     if !nothing {
         return r;
     }
-    let context = r.context;
+    let context = a.context;
     unresolved(context, Outcome::NotExported)
 }
 
@@ -980,7 +977,7 @@ fn main_resolve(
     work: &mut [u8],
 ) -> Answer
     requires { ⌜ 1024 ≤ length (now work) ⌝ }
-    ensures { λ r. ⌜ ((ms : Members) → Stands (now (m .entry)) 15 at (obj ms) → subpaths ≡ anyKey isSubpathKey (entries ms) → answerOf (dotRequest (now (url .entry)) (textsOf (now (settings .entry)) 0)) r ≡ mainResolve (now (url .entry)) (textsOf (now (settings .entry)) 0) (mainExport (obj ms)) fresh) ⌝ }
+    ensures { λ r. ⌜ ((ms : Members) → Stands (now (m .entry)) 15 at (obj ms) → subpaths ≡ anyKey isSubpathKey (entries ms) → answerOf (now (m .entry)) (dotRequest (now (url .entry)) (textsOf (now (settings .entry)) 0)) r ≡ mainResolve (now (url .entry)) (textsOf (now (settings .entry)) 0) (mainExport (obj ms)) fresh) ⌝ }
 {
     let dot = get(m, at, b".");
     match dot {
@@ -1043,13 +1040,17 @@ fn object_resolve(
         return keys_resolve(m, at, settings, url, subpath, Context::new(), work);
     }
     let subpaths = keys.subpath;
-    let a = main_resolve(m, at, subpaths, settings, url, work);
-    let outcome = a.outcome;
+    let answer = main_resolve(m, at, subpaths, settings, url, work);
+    let outcome = answer.outcome;
     let nothing = is_nothing(outcome);
     if !nothing {
-        return with_key(a, Key::Dot, Match::Nothing);
+        return Resolved {
+            answer,
+            key: Key::Dot,
+            matched: Match::Nothing,
+        };
     }
-    let context = a.context;
+    let context = answer.context;
     keys_resolve(m, at, settings, url, subpath, context, work)
 }
 
@@ -1068,7 +1069,7 @@ fn whole_resolve(
     if !text::equal(subpath, b".") {
         return unresolved(Context::new(), Outcome::NotExported);
     }
-    let a = package_target_resolve(
+    let answer = package_target_resolve(
         m,
         at,
         15,
@@ -1079,12 +1080,16 @@ fn whole_resolve(
         Context::new(),
         work,
     );
-    let outcome = a.outcome;
+    let outcome = answer.outcome;
     let nothing = is_nothing(outcome);
     if !nothing {
-        return with_key(a, Key::Dot, Match::Nothing);
+        return Resolved {
+            answer,
+            key: Key::Dot,
+            matched: Match::Nothing,
+        };
     }
-    let context = a.context;
+    let context = answer.context;
     unresolved(context, Outcome::NotExported)
 }
 

@@ -11,9 +11,9 @@ use lib.Seq.{take-all, take-append-le}
 use Rattle.definition.specs.Text.{Text, text, if_then_else_, startsWith, overwrite}
 use Rattle.definition.specs.Path.{dirs}
 use Rattle.definition.specs.Specifier.{dotSubpath, stripPackageName}
-use Rattle.definition.specs.Json.{Json, Read, got, fault, quoted}
-use Rattle.definition.specs.JsonAt.{textAt, toldAt, getAt}
-use Rattle.definition.specs.JsonAtLaws.{Stands, Finds, finds, finds-none, get-here, text-told}
+use Rattle.definition.specs.Json.{Json}
+use Rattle.definition.specs.JsonAt.{getAt}
+use Rattle.definition.specs.JsonAtLaws.{Stands, Finds, finds, finds-none, get-here}
 use Rattle.definition.specs.Exports as exports
 use Rattle.definition.specs.Exports.{Failure, NotFound, Empty, InvalidPackageTarget, PackagePathNotExported, InvalidPackageConfig, InvalidPackageConfigDirectory, JsonError, failureNumber, failureTexts, PACKAGE-EXPORTS-RESOLVE}
 use Rattle.definition.specs.Ask.{Listing, Step, go, stop, Ask, ret, end, ask, read, _>>=_, _>>_}
@@ -25,9 +25,10 @@ use Rattle.package_json.proofs.Cursor as cursor
 use Rattle.package_json.specs.declared.Cursor.{Cursor}
 use Rattle.package_json.specs.declared.Cursor.the-variants.{At, Nothing}
 use Rattle.package_json.specs.Cursors.{placed}
-use Rattle.json_text.specs.Texts.{orEmpty}
 use Rattle.exports.specs.Chosen as chosen
-use Rattle.exports.specs.Chosen.{readText}
+use Rattle.exports.specs.declared.Part.{Part}
+use Rattle.exports.specs.Contexts.{partText}
+use Rattle.exports.proofs.Contexts.{part-short}
 use Rattle.files.specs.declared.Ending.{Ending}
 use Rattle.files.specs.declared.Mark.{Mark}
 use Rattle.files.specs.declared.Way.{Way}
@@ -41,18 +42,21 @@ use Rattle.files.proofs.Steps.{Ends, done-finish}
 use Rattle.resolver.proofs.Manifests.{perhaps-none, perhaps-some}
 use Rattle.files.proofs.Ways.{ended, way-onward}
 
--- THE TEXTS OF AN ERROR. The text of a key, which is read once more
-pub key-read : (s w : Text) → 1024 ≤ length w → orEmpty (textAt s w .text) ≡ readText (quoted s)
-unfolding textAt toldAt
-key-read s w l = by (quoted s) refl
-  where
-    by : (r : Read Text) → quoted s ≡ r → orEmpty (textAt s w .text) ≡ readText r
-    by (got t r) e = ap orEmpty (text-told s w t r l e)
-    by (fault f) e = rw e
-
+-- THE TEXTS OF AN ERROR
 pub done-failed : {A : Type 0} {L : Listing _} {f : Failure} {n : ℕ} {a b c : Text} → Ends (stopped (failed f)) n a b c → {r : Ending} {before after : Text} → Finishes n a b c r before after → (ns list : List ℕ) (m : Mark) → Done {A = A} L (given (stop (failed f))) (tapeOf before ns list m) (tapeOf after ns list m) (stop r)
 unfolding given
 done-failed h z ns list m = done-finish h _ _ _ (z .ending) (rw (z .texts))
+
+-- A TEXT AT THE START OF A BUFFER that has room for it, and a part of a manifest's string there
+first-text : (t d : Text) → length t ≤ length d → take (length t) (overwrite 0 t d) ≡ t
+unfolding overwrite
+first-text t d h =
+    let z : length d - 0 ≡ length d = omega arith in
+    rw (z, take-all (length d) t h, take-append-le (length t) t (drop (0 + length t) d) (omega arith)) (take-all (length t) t (omega arith))
+
+pub part-first : (m : Text) (p : Part) (d d′ x : Text) (n : ℕ) → 1024 ≤ length d → n ≡ length (partText m p) → d′ ≡ overwrite 0 (partText m p) d → x ≡ take n d′ → x ≡ partText m p
+part-first m p d d′ x n l e f g =
+    g ∙ ap (λ k. take k d′) e ∙ ap (take (length (partText m p))) f ∙ first-text (partText m p) d (omega (arith, part-short m p))
 
 -- RESOLVE_ESM_MATCH. One routine after two others
 bind-bind : {E M A B C : Type 0} (m : Ask E M A) (f : A → Ask E M B) (g : B → Ask E M C) → (m >>= f) >>= g ≡ m >>= λ x. f x >>= g
@@ -142,12 +146,6 @@ dotted-longer sub = by (startsWith (text ".") sub)
     by : (t : Bool) → length (if t then sub else text "." ++ sub) ≤ length sub + 1
     by true = omega arith
     by false = omega arith
-
-first-text : (t d : Text) → length t ≤ length d → take (length t) (overwrite 0 t d) ≡ t
-unfolding overwrite
-first-text t d h =
-    let z : length d - 0 ≡ length d = omega arith in
-    rw (z, take-all (length d) t h, take-append-le (length t) t (drop (0 + length t) d) (omega arith)) (take-all (length t) t (omega arith))
 
 pub dotted-text : (sub d e : Text) (n : ℕ) → length sub < length d → n ≡ length (dotSubpath sub) → e ≡ overwrite 0 (dotSubpath sub) d → take n e ≡ dotSubpath sub
 dotted-text sub d e n h k o = rw (o, k) (first-text (dotSubpath sub) d (omega (arith, dotted-longer sub)))

@@ -34,6 +34,7 @@ ghost use Rattle.json_text.specs.Scanned.{faultOf};
 ghost use Rattle.package_json.specs.Cursors.{placed};
 ghost use Rattle.json_text.specs.Texts.{textOf};
 ghost use Rattle.exports.specs.Keys.{matchOf};
+ghost use Rattle.exports.specs.Contexts.{partText};
 ghost use Rattle.exports.specs.Answers.{outcomeIn};
 ghost use Rattle.exports.specs.Chosen.{keyText};
 ghost use Rattle.files.specs.Tape.{Done};
@@ -556,6 +557,42 @@ fn exports_ending(
     }
 }
 
+// RESOLVE_ESM_MATCH(MATCH) with the query and the fragment of the targets that were tried.
+fn resolve_in_context(
+    l: &[u8],
+    s: &[u8],
+    spec: &[u8],
+    path: &[u8],
+    manifest: &[u8],
+    context: exports::Context,
+    result: &mut [u8],
+    nums: &mut [u32],
+    text: &mut [u8],
+    m: Mark,
+    work: &mut [u8],
+) -> Out
+    requires { ⌜ 1024 ≤ length (now work) ⌝ }
+    ensures { λ r. ⌜ Done (seenBy (settingsOf (now (s .entry))) (now (l .entry))) (never (RESOLVE-ESM-MATCH (settingsOf (now (s .entry))) (now (spec .entry)) (place (now (path .entry)) (partText (now (manifest .entry)) (context .query)) (partText (now (manifest .entry)) (context .fragment))))) (tapeOf (now (result .entry)) (now (nums .entry)) (now (text .entry)) m) (tapeOf (now (result .exit)) (now (nums .exit)) (now (text .exit)) (r .mark)) (stepOf (r .way)) ⌝ }
+{
+    let mut query = [0u8; 1024];
+    let q = exports::part_text(manifest, context.query, &mut query);
+    let mut fragment = [0u8; 1024];
+    let f = exports::part_text(manifest, context.fragment, &mut fragment);
+    resolve_esm_match(
+        l,
+        s,
+        spec,
+        path,
+        path::first(&query, q),
+        path::first(&fragment, f),
+        result,
+        nums,
+        text,
+        m,
+        work,
+    )
+}
+
 // PACKAGE_EXPORTS_RESOLVE for the exports field at a place, and RESOLVE_ESM_MATCH for the path that it gives.
 fn resolve_exports(
     l: &[u8],
@@ -577,11 +614,10 @@ fn resolve_exports(
     let r = exports::package_exports_resolve(manifest, at, s, dir, subpath, work);
     let key = r.key;
     let matched = r.matched;
-    let outcome = r.outcome;
-    let path = r.path;
-    let context = r.context;
-    let n = path.len;
-    let target = path::first(&path.bytes, n);
+    let a = r.answer;
+    let outcome = a.outcome;
+    let context = a.context;
+    let target = path::first(&r.answer.path.bytes, r.answer.path.len);
     let way = exports_ending(
         manifest,
         dir,
@@ -596,15 +632,13 @@ fn resolve_exports(
     let Way::Next = way else {
         return Out { way, mark: m };
     };
-    let q = context.qlen;
-    let f = context.flen;
-    resolve_esm_match(
+    resolve_in_context(
         l,
         s,
         spec,
         target,
-        path::first(&context.query, q),
-        path::first(&context.fragment, f),
+        manifest,
+        context,
         result,
         nums,
         text,

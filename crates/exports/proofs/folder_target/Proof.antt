@@ -1,9 +1,10 @@
 use borrow.Author.Needs.{needs}
-use mathlib.Core.Path.{_≡_, _∙_, ap}
+use mathlib.Core.Path.{_≡_, sym, _∙_, ap}
 use mathlib.Core.List.{_++_}
 use Rattle.definition.specs.Path.{andPath, addExtension}
+use Rattle.exports.specs.Answers.{resolved}
 use Rattle.exports.specs.declared.Outcome.the-variants.{OverLong}
-use Rattle.exports.proofs.Targets.{located-is, built-over, built-text, appended}
+use Rattle.exports.proofs.Targets.{outcome-is, built-over, built-text, appended}
 use Rattle.exports.proofs.folder_target.Statement.{statement}
 use Rattle.exports.proofs.folder_target.Tie as tie
 
@@ -14,7 +15,7 @@ folder-target-spec =
     (λ c κs. search needs)
     (λ c κs. search needs)
     (λ c κs. search needs)
-    (λ c. λ q u. located-is q (c .unlocated .result) OverLong (c .unlocated .ensures) ∙ built-over q ((c .before .before .before .before .before .before .before .args .t .now) ++ (c .before .before .before .before .before .before .before .args .pattern .now)) (c .before .before .append .result) (c .before .before .append .ensures ∙ ap (λ b. andPath b (λ p. addExtension p (c .before .before .before .before .before .before .before .args .pattern .now))) (c .before .before .before .from .ensures) ∙ appended (c .before .before .before .before .before .before .before .args .t .now) (c .before .before .before .before .before .before .before .args .pattern .now)) (c .before .if1 .taken))
+    (λ c. λ m q u. outcome-is m q (c .without-path .result) (c .before .before .before .before .before .before .before .args .c) OverLong (c .without-path .ensures) ∙ ap (resolved m (c .before .before .before .before .before .before .before .args .c)) (built-over q ((c .before .before .before .before .before .before .before .args .t .now) ++ (c .before .before .before .before .before .before .before .args .pattern .now)) (c .before .before .append .result) (c .before .before .append .ensures ∙ ap (λ b. andPath b (λ p. addExtension p (c .before .before .before .before .before .before .before .args .pattern .now))) (c .before .before .before .from .ensures) ∙ appended (c .before .before .before .before .before .before .before .args .t .now) (c .before .before .before .before .before .before .before .args .pattern .now)) (c .before .if1 .taken)))
     (λ c κs. search needs)
     (λ c κs. search needs)
-    (λ c. λ q u. c .target-path .ensures q u ∙ built-text q ((c .before .before .before .before .before .before .before .before .before .before .before .args .t .now) ++ (c .before .before .before .before .before .before .before .before .before .before .before .args .pattern .now)) (c .before .before .before .before .before .before .append .result) (c .before .before .before .before .before .before .append .ensures ∙ ap (λ b. andPath b (λ p. addExtension p (c .before .before .before .before .before .before .before .before .before .before .before .args .pattern .now))) (c .before .before .before .before .before .before .before .from .ensures) ∙ appended (c .before .before .before .before .before .before .before .before .before .before .before .args .t .now) (c .before .before .before .before .before .before .before .before .before .before .before .args .pattern .now)) (c .before .before .before .before .before .if1 .left) _ (c .before .first .ensures)))
+    (λ c. λ m q u. c .target-path .ensures m q u ∙ ap (resolved m (c .before .before .before .before .before .before .before .before .before .before .before .args .c)) (built-text q ((c .before .before .before .before .before .before .before .before .before .before .before .args .t .now) ++ (c .before .before .before .before .before .before .before .before .before .before .before .args .pattern .now)) (c .before .before .before .before .before .before .append .result) (c .before .before .before .before .before .before .append .ensures ∙ ap (λ b. andPath b (λ p. addExtension p (c .before .before .before .before .before .before .before .before .before .before .before .args .pattern .now))) (c .before .before .before .before .before .before .before .from .ensures) ∙ appended (c .before .before .before .before .before .before .before .before .before .before .before .args .t .now) (c .before .before .before .before .before .before .before .before .before .before .before .args .pattern .now)) (c .before .before .before .before .before .if1 .left) _ (c .before .first .ensures))))

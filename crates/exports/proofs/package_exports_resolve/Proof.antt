@@ -29,7 +29,7 @@ package-exports-resolve-spec =
     (λ c κs. search needs)
     (λ c. search needs)
     (λ c κs. search needs)
-    (λ c. (λ j l h. subpath-is (c .before .before .before .before .before .before .before .before .before .before .before .args .m .now) (c .before .before .before .before .before .before .before .before .before .before .before .args .url .now) (c .before .before .before .before .before .before .before .before .before .before .before .args .subpath .now) (c .unresolved2 .result) (c .before .new2 .result) NotExported (c .unresolved2 .ensures) ∙ ap (λ x. record { context = x; outcome = pathNotExported (c .before .before .before .before .before .before .before .before .before .before .before .args .subpath .now) (c .before .before .before .before .before .before .before .before .before .before .before .args .url .now) }) (c .before .new2 .ensures) ∙ exports-scalar (c .before .before .before .before .before .before .before .before .before .before .before .args .url .now) (textsOf (c .before .before .before .before .before .before .before .before .before .before .before .args .settings .now) 0) (c .before .before .before .before .before .before .before .before .before .before .before .args .subpath .now) fresh j (sym (c .before .before .enum-told .given .1) ∙ c .before .before .before .before .kind-at .ensures 15 j (record { here = h })), refl))
+    (λ c. (λ j l h. subpath-is (c .before .before .before .before .before .before .before .before .before .before .before .args .m .now) (c .before .before .before .before .before .before .before .before .before .before .before .args .url .now) (c .before .before .before .before .before .before .before .before .before .before .before .args .subpath .now) (c .unresolved2 .result) (c .before .new2 .result) NotExported (c .unresolved2 .ensures) ∙ ap (λ x. record { context = x; outcome = pathNotExported (c .before .before .before .before .before .before .before .before .before .before .before .args .subpath .now) (c .before .before .before .before .before .before .before .before .before .before .before .args .url .now) }) (c .before .new2 .ensures _) ∙ exports-scalar (c .before .before .before .before .before .before .before .before .before .before .before .args .url .now) (textsOf (c .before .before .before .before .before .before .before .before .before .before .before .args .settings .now) 0) (c .before .before .before .before .before .before .before .before .before .before .before .args .subpath .now) fresh j (sym (c .before .before .enum-told .given .1) ∙ c .before .before .before .before .kind-at .ensures 15 j (record { here = h })), refl))
     (λ c. search needs)
     (λ c. (λ j l h. c .before .before .whole-resolve .ensures j (whole-string j (sym (c .before .before .before .before .enum-told2 .given .1) ∙ c .before .before .before .before .before .before .kind-at .ensures 15 j (record { here = h }))) (record { here = h }), c .before .before .whole-resolve .kept .1 .1 .1 .1 .1 .0))
     (λ c. search needs)

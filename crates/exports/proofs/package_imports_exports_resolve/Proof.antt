@@ -5,7 +5,6 @@ use Rattle.definition.specs.Settings.{textsOf}
 use Rattle.definition.specs.Exports.{entries, literal}
 use Rattle.exports.specs.declared.Outcome.the-variants.{Nothing}
 use Rattle.exports.specs.Contexts.{contextOf}
-use Rattle.exports.specs.Chosen.{resolvedOf}
 use Rattle.exports.proofs.Resolutions.{subpath-is, finds-some, finds-none, key-asked, imports-slash, imports-literal, imports-pattern}
 use Rattle.exports.proofs.package_imports_exports_resolve.Statement.{statement}
 use Rattle.exports.proofs.package_imports_exports_resolve.Tie as tie
@@ -17,14 +16,13 @@ package-imports-exports-resolve-spec =
     (λ c. search needs)
     (λ c κs. search needs)
     (λ c κs. search needs)
-    (λ c. λ ms h. subpath-is (c .before .before .before .before .before .before .before .before .before .args .m .now) (c .before .before .before .before .before .before .before .before .before .args .url .now) (c .before .before .before .before .before .before .before .before .before .args .match-key .now) (c .unresolved .result) (c .before .before .before .before .before .before .before .before .before .args .c) Nothing (c .unresolved .ensures) ∙ imports-slash (c .before .before .before .before .before .before .before .before .before .args .url .now) (textsOf (c .before .before .before .before .before .before .before .before .before .args .settings .now) 0) (c .before .before .before .before .before .before .before .before .before .args .match-key .now) (entries ms) (contextOf (c .before .before .before .before .before .before .before .before .before .args .c)) (sym (c .before .before .ends-with .ensures) ∙ c .before .if1 .taken))
+    (λ c. λ ms h. subpath-is (c .before .before .before .before .before .before .before .before .before .args .m .now) (c .before .before .before .before .before .before .before .before .before .args .url .now) (c .before .before .before .before .before .before .before .before .before .args .match-key .now) (c .unresolved .result) (c .before .before .before .before .before .before .before .before .before .args .c) Nothing (c .unresolved .ensures) ∙ imports-slash (c .before .before .before .before .before .before .before .before .before .args .url .now) (textsOf (c .before .before .before .before .before .before .before .before .before .args .settings .now) 0) (c .before .before .before .before .before .before .before .before .before .args .match-key .now) (entries ms) (contextOf (c .before .before .before .before .before .before .before .before .before .args .m .now) (c .before .before .before .before .before .before .before .before .before .args .c)) (sym (c .before .before .ends-with .ensures) ∙ c .before .if1 .taken))
     (λ c κs. search needs)
     (λ c. search needs)
     (λ c κs. search needs)
     (λ c. search needs)
     (λ c κs. search needs)
-    (λ c κs. search needs)
     (λ c. search needs)
-    (λ c. λ ms h. c .before .before .pattern-resolve .ensures ms h ∙ imports-pattern (c .before .before .before .before .before .before .before .before .before .before .before .before .before .before .before .args .url .now) (textsOf (c .before .before .before .before .before .before .before .before .before .before .before .before .before .before .before .args .settings .now) 0) (c .before .before .before .before .before .before .before .before .before .before .before .before .before .before .before .args .match-key .now) (entries ms) (contextOf (c .before .before .before .before .before .before .before .before .before .before .before .before .before .before .before .args .c)) (sym (c .before .before .before .before .before .before .before .before .ends-with .ensures) ∙ c .before .before .before .before .before .before .before .if1 .left) (finds-none (c .before .before .before .before .before .before .before .before .before .before .before .before .before .before .before .args .m .now) 14 (literal (c .before .before .before .before .before .before .before .before .before .before .before .before .before .before .before .args .match-key .now) (entries ms)) (c .before .before .before .before .before .before .literal-at .result) (c .before .before .before .before .before .before .literal-at .ensures ms h) (c .before .before .before .before .enum-told .given .1)))
+    (λ c. λ ms h. c .before .before .pattern-resolve .ensures ms h ∙ imports-pattern (c .before .before .before .before .before .before .before .before .before .before .before .before .before .before .before .args .url .now) (textsOf (c .before .before .before .before .before .before .before .before .before .before .before .before .before .before .before .args .settings .now) 0) (c .before .before .before .before .before .before .before .before .before .before .before .before .before .before .before .args .match-key .now) (entries ms) (contextOf (c .before .before .before .before .before .before .before .before .before .before .before .before .before .before .before .args .m .now) (c .before .before .before .before .before .before .before .before .before .before .before .before .before .before .before .args .c)) (sym (c .before .before .before .before .before .before .before .before .ends-with .ensures) ∙ c .before .before .before .before .before .before .before .if1 .left) (finds-none (c .before .before .before .before .before .before .before .before .before .before .before .before .before .before .before .args .m .now) 14 (literal (c .before .before .before .before .before .before .before .before .before .before .before .before .before .before .before .args .match-key .now) (entries ms)) (c .before .before .before .before .before .before .literal-at .result) (c .before .before .before .before .before .before .literal-at .ensures ms h) (c .before .before .before .before .enum-told .given .1)))
     (λ c. search needs)
-    (λ c. λ ms h. let f = finds-some (c .before .before .before .before .before .before .before .before .before .before .before .before .before .before .before .before .before .args .m .now) 14 (literal (c .before .before .before .before .before .before .before .before .before .before .before .before .before .before .before .before .before .args .match-key .now) (entries ms)) (c .before .before .before .before .before .before .before .before .literal-at .result) _ (c .before .before .before .before .before .before .before .before .literal-at .ensures ms h) (c .before .before .before .before .before .before .literal .given .1) in ap (resolvedOf (c .before .before .before .before .before .before .before .before .before .before .before .before .before .before .before .before .before .args .m .now) (c .before .before .before .before .before .before .before .before .before .before .before .before .before .before .before .before .before .args .url .now) (c .before .before .before .before .before .before .before .before .before .before .before .before .before .before .before .before .before .args .match-key .now)) (c .with-key .ensures) ∙ c .before .before .before .package-target-resolve .ensures .is (record { packageURL = (c .before .before .before .before .before .before .before .before .before .before .before .before .before .before .before .before .before .args .url .now); key = (c .before .before .before .before .before .before .before .before .before .before .before .before .before .before .before .before .before .args .match-key .now); matched = none; conditions = textsOf (c .before .before .before .before .before .before .before .before .before .before .before .before .before .before .before .before .before .args .settings .now) 0 }) (key-asked (c .before .before .before .before .before .before .before .before .before .before .before .before .before .before .before .before .before .args .url .now) (c .before .before .before .before .before .before .before .before .before .before .before .before .before .before .before .before .before .args .match-key .now) (c .before .before .before .before .before .before .before .before .before .before .before .before .before .before .before .before .before .args .settings .now) (c .before .before .before .before .before .before .before .before .before .before .before .before .before .before .before .before .before .args .match-key .now)) (f .0) (f .1 .1) ∙ imports-literal (c .before .before .before .before .before .before .before .before .before .before .before .before .before .before .before .before .before .args .url .now) (textsOf (c .before .before .before .before .before .before .before .before .before .before .before .before .before .before .before .before .before .args .settings .now) 0) (c .before .before .before .before .before .before .before .before .before .before .before .before .before .before .before .before .before .args .match-key .now) (entries ms) (contextOf (c .before .before .before .before .before .before .before .before .before .before .before .before .before .before .before .before .before .args .c)) (sym (c .before .before .before .before .before .before .before .before .before .before .ends-with .ensures) ∙ c .before .before .before .before .before .before .before .before .before .if1 .left) (f .0) (f .1 .0)))
+    (λ c. λ ms h. let f = finds-some (c .before .before .before .before .before .before .before .before .before .before .before .before .before .before .before .before .args .m .now) 14 (literal (c .before .before .before .before .before .before .before .before .before .before .before .before .before .before .before .before .args .match-key .now) (entries ms)) (c .before .before .before .before .before .before .before .literal-at .result) _ (c .before .before .before .before .before .before .before .literal-at .ensures ms h) (c .before .before .before .before .before .literal .given .1) in c .before .before .package-target-resolve .ensures .is (record { packageURL = (c .before .before .before .before .before .before .before .before .before .before .before .before .before .before .before .before .args .url .now); key = (c .before .before .before .before .before .before .before .before .before .before .before .before .before .before .before .before .args .match-key .now); matched = none; conditions = textsOf (c .before .before .before .before .before .before .before .before .before .before .before .before .before .before .before .before .args .settings .now) 0 }) (key-asked (c .before .before .before .before .before .before .before .before .before .before .before .before .before .before .before .before .args .url .now) (c .before .before .before .before .before .before .before .before .before .before .before .before .before .before .before .before .args .match-key .now) (c .before .before .before .before .before .before .before .before .before .before .before .before .before .before .before .before .args .settings .now) (c .before .before .before .before .before .before .before .before .before .before .before .before .before .before .before .before .args .match-key .now)) (f .0) (f .1 .1) ∙ imports-literal (c .before .before .before .before .before .before .before .before .before .before .before .before .before .before .before .before .args .url .now) (textsOf (c .before .before .before .before .before .before .before .before .before .before .before .before .before .before .before .before .args .settings .now) 0) (c .before .before .before .before .before .before .before .before .before .before .before .before .before .before .before .before .args .match-key .now) (entries ms) (contextOf (c .before .before .before .before .before .before .before .before .before .before .before .before .before .before .before .before .args .m .now) (c .before .before .before .before .before .before .before .before .before .before .before .before .before .before .before .before .args .c)) (sym (c .before .before .before .before .before .before .before .before .before .ends-with .ensures) ∙ c .before .before .before .before .before .before .before .before .if1 .left) (f .0) (f .1 .0)))

@@ -1,8 +1,9 @@
 use borrow.Author.Needs.{needs}
-use mathlib.Core.Path.{_≡_, _∙_}
+use mathlib.Core.Path.{_≡_, sym, _∙_, ap}
 use Rattle.definition.specs.Text.{star, replace}
+use Rattle.exports.specs.Answers.{resolved}
 use Rattle.exports.specs.declared.Outcome.the-variants.{OverLong}
-use Rattle.exports.proofs.Targets.{located-is, built-over, built-text}
+use Rattle.exports.proofs.Targets.{outcome-is, built-over, built-text}
 use Rattle.exports.proofs.starred_target.Statement.{statement}
 use Rattle.exports.proofs.starred_target.Tie as tie
 
@@ -12,7 +13,7 @@ starred-target-spec =
     (tie.spec
     (λ c κs. search needs)
     (λ c κs. search needs)
-    (λ c. λ q u. located-is q (c .unlocated .result) OverLong (c .unlocated .ensures) ∙ built-over q (replace star (c .before .before .before .before .before .before .args .pattern .now) (c .before .before .before .before .before .before .args .t .now)) (c .before .before .substitute .result) (c .before .before .substitute .ensures) (c .before .if1 .taken))
+    (λ c. λ m q u. outcome-is m q (c .without-path .result) (c .before .before .before .before .before .before .args .c) OverLong (c .without-path .ensures) ∙ ap (resolved m (c .before .before .before .before .before .before .args .c)) (built-over q (replace star (c .before .before .before .before .before .before .args .pattern .now) (c .before .before .before .before .before .before .args .t .now)) (c .before .before .substitute .result) (c .before .before .substitute .ensures) (c .before .if1 .taken)))
     (λ c κs. search needs)
     (λ c κs. search needs)
-    (λ c. λ q u. c .target-path .ensures q u ∙ built-text q (replace star (c .before .before .before .before .before .before .before .before .before .before .args .pattern .now) (c .before .before .before .before .before .before .before .before .before .before .args .t .now)) (c .before .before .before .before .before .before .substitute .result) (c .before .before .before .before .before .before .substitute .ensures) (c .before .before .before .before .before .if1 .left) _ (c .before .first .ensures)))
+    (λ c. λ m q u. c .target-path .ensures m q u ∙ ap (resolved m (c .before .before .before .before .before .before .before .before .before .before .args .c)) (built-text q (replace star (c .before .before .before .before .before .before .before .before .before .before .args .pattern .now) (c .before .before .before .before .before .before .before .before .before .before .args .t .now)) (c .before .before .before .before .before .before .substitute .result) (c .before .before .before .before .before .before .substitute .ensures) (c .before .before .before .before .before .if1 .left) _ (c .before .first .ensures))))

@@ -1,11 +1,11 @@
 use borrow.Author.Needs.{needs}
 use mathlib.Core.Path.{_≡_, sym, _∙_, ap}
-use lib.ListN.{length}
 use Prim.Native.Nat.{_≤_}
+use lib.ListN.{length}
 use Rattle.definition.specs.Specifier.{parseSpecifier}
 use Rattle.definition.specs.Exports.{stringTarget}
 use Rattle.exports.specs.Contexts.{contextOf}
-use Rattle.exports.proofs.Places.{text-short, text-target}
+use Rattle.exports.proofs.Places.{text-short, text-target, string-is}
 use Rattle.exports.proofs.string_target.Statement.{statement}
 use Rattle.exports.proofs.string_target.Tie as tie
 
@@ -17,4 +17,4 @@ string-target-spec =
     (λ c κs. search needs)
     (λ c κs. search needs)
     (λ c. search needs)
-    (λ c. λ q d s a h. let e = text-target h (c .before .before .before .before .before .before .before .before .before .before .before .args .work .now) _ (c .before .before .before .before .before .read-text .result) _ (c .before .before .before .before .before .before .before .before .before .before .before .pre) (c .before .before .before .before .before .read-text .ensures) (c .before .text-at .ensures) in c .text-target .ensures q a (rw e (text-short h)) ∙ ap (λ t. stringTarget q (parseSpecifier t) t (contextOf (c .before .before .before .before .before .before .before .before .before .before .before .args .c))) e))
+    (λ c. λ q d s a h. let e = text-target h (c .before .before .before .before .before .before .before .before .before .before .before .args .work .now) _ (c .before .before .before .before .before .read-text .result) _ (c .before .before .before .before .before .before .before .before .before .before .before .pre) (c .before .before .before .before .before .read-text .ensures) (c .before .text-at .ensures) in c .text-target .ensures (c .before .before .before .before .before .before .before .before .before .before .before .args .m .now) q a (rw e (text-short h)) (string-is h ∙ sym e) ∙ ap (λ t. stringTarget q (parseSpecifier t) t (contextOf (c .before .before .before .before .before .before .before .before .before .before .before .args .m .now) (c .before .before .before .before .before .before .before .before .before .before .before .args .c))) e))

@@ -1,7 +1,8 @@
 use borrow.Author.Needs.{needs}
-use mathlib.Core.Path.{_≡_, sym, _∙_}
+use mathlib.Core.Path.{_≡_, sym, _∙_, ap}
+use Rattle.exports.specs.Answers.{resolved}
 use Rattle.exports.specs.declared.Outcome.the-variants.{OverLong}
-use Rattle.exports.proofs.Targets.{located-is, target-over, target-invalid, path-over, path-found}
+use Rattle.exports.proofs.Targets.{outcome-is, target-over, target-invalid, path-over, path-found}
 use Rattle.exports.proofs.target_path.Statement.{statement}
 use Rattle.exports.proofs.target_path.Tie as tie
 
@@ -10,11 +11,11 @@ target-path-spec =
     tie.close
     (tie.spec
     (λ c κs. search needs)
-    (λ c. λ q u. located-is q (c .unlocated .result) OverLong (c .unlocated .ensures) ∙ target-over q (c .before .before .before .before .args .t .now) (c .before .if1 .taken))
+    (λ c. λ m q u. outcome-is m q (c .without-path .result) (c .before .before .before .before .args .c) OverLong (c .without-path .ensures) ∙ ap (resolved m (c .before .before .before .before .args .c)) (target-over q (c .before .before .before .before .args .t .now) (c .before .if1 .taken)))
     (λ c κs. search needs)
     (λ c κs. search needs)
-    (λ c. λ q u. target-invalid q (c .before .before .before .before .before .before .args .t .now) (c .before .before .before .if1 .left) (sym (c .before .before .is-invalid-exports-target .ensures) ∙ c .before .if2 .taken) (c .from .result) (c .from .ensures))
+    (λ c. λ m q u. ap (resolved m (c .before .before .before .before .before .before .args .c)) (target-invalid q (c .before .before .before .before .before .before .args .t .now) (c .before .before .before .if1 .left) (sym (c .before .before .is-invalid-exports-target .ensures) ∙ c .before .if2 .taken) (c .from .result) (c .from .ensures)))
     (λ c κs. search needs)
     (λ c κs. search needs)
-    (λ c. λ q u. located-is q (c .unlocated2 .result) OverLong (c .unlocated2 .ensures) ∙ path-over q (c .before .before .before .before .before .before .before .before .before .args .t .now) (c .before .before .before .before .before .before .if1 .left) (sym (c .before .before .before .before .before .is-invalid-exports-target .ensures) ∙ c .before .before .before .before .if2 .left) (c .before .before .before .before .before .before .before .before .before .args .url .now) u (c .before .before .before .normalize-with .result) (c .before .before .before .normalize-with .ensures) (c .before .if3 .taken))
-    (λ c. λ q u. path-found q (c .before .before .before .before .before .before .before .before .args .t .now) (c .before .before .before .before .before .if1 .left) (sym (c .before .before .before .before .is-invalid-exports-target .ensures) ∙ c .before .before .before .if2 .left) (c .before .before .before .before .before .before .before .before .args .url .now) u (c .before .before .normalize-with .result) (c .before .before .normalize-with .ensures) (c .if3 .left)))
+    (λ c. λ m q u. outcome-is m q (c .without-path2 .result) (c .before .before .before .before .before .before .before .before .before .args .c) OverLong (c .without-path2 .ensures) ∙ ap (resolved m (c .before .before .before .before .before .before .before .before .before .args .c)) (path-over q (c .before .before .before .before .before .before .before .before .before .args .t .now) (c .before .before .before .before .before .before .if1 .left) (sym (c .before .before .before .before .before .is-invalid-exports-target .ensures) ∙ c .before .before .before .before .if2 .left) (c .before .before .before .before .before .before .before .before .before .args .url .now) u (c .before .before .before .normalize-with .result) (c .before .before .before .normalize-with .ensures) (c .before .if3 .taken)))
+    (λ c. λ m q u. ap (resolved m (c .before .before .before .before .before .before .before .before .args .c)) (path-found q (c .before .before .before .before .before .before .before .before .args .t .now) (c .before .before .before .before .before .if1 .left) (sym (c .before .before .before .before .is-invalid-exports-target .ensures) ∙ c .before .before .before .if2 .left) (c .before .before .before .before .before .before .before .before .args .url .now) u (c .before .before .normalize-with .result) (c .before .before .normalize-with .ensures) (c .if3 .left))))

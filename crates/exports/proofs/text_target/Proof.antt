@@ -1,9 +1,6 @@
 use native.Mathlib.Omega.{arith}
 use borrow.Author.Needs.{needs}
-use mathlib.Core.Path.{_≡_, sym, _∙_, ap}
-use lib.ListN.{length}
-use Rattle.exports.specs.Contexts.{contextOf}
-use Rattle.exports.specs.Answers.{resolved}
+use mathlib.Core.Path.{_≡_, sym, _∙_}
 use Rattle.exports.proofs.Parsing.{string-empty, string-valid, string-invalid, context-of}
 use Rattle.exports.proofs.text_target.Statement.{statement}
 use Rattle.exports.proofs.text_target.Tie as tie
@@ -14,7 +11,7 @@ text-target-spec =
     (tie.spec
     (λ c κs. search needs)
     (λ c κs. search needs)
-    (λ c. λ q a l. string-empty (c .before .before .before .before .before .before .args .s .now) (c .before .before .parse .result) (c .before .before .parse .ensures) q (c .before .before .before .before .before .before .args .c) l (c .before .if1 .taken) (c .from .result) (c .from .ensures))
+    (λ c. λ m q a l i. string-empty (c .before .before .before .before .before .before .args .s .now) (c .before .before .parse .result) (c .before .before .parse .ensures) m q (c .before .before .before .before .before .before .args .c) l (c .before .if1 .taken) (c .from .result) (c .from .ensures))
     (λ c κs. search needs)
     (λ c κs. search needs)
     (λ c κs. search needs)
@@ -23,5 +20,5 @@ text-target-spec =
     (λ c. search needs)
     (λ c κs. search needs)
     (λ c κs. search needs)
-    (λ c. λ q a l. ap (resolved (c .before .before .before .before .before .before .before .before .before .before .with-query-fragment .result)) (c .before .normalized-target .ensures q a) ∙ string-valid (c .before .before .before .before .before .before .before .before .before .before .before .before .before .before .before .before .before .before .before .args .s .now) (c .before .before .before .before .before .before .before .before .before .before .before .before .before .before .before .parse .result) (c .before .before .before .before .before .before .before .before .before .before .before .before .before .before .before .parse .ensures) q (c .before .before .before .before .before .before .before .before .before .before .before .before .before .before .before .before .before .before .before .args .c) l (λ k. omega (arith, c .before .before .before .before .before .before .before .before .before .before .before .before .before .before .before .before .shared-slice-known3 .given k)) (c .before .before .before .before .before .before .before .before .before .before .before .before .before .before .if1 .left) (c .before .before .before .before .before .before .before .before .before .before .with-query-fragment .result) (context-of (contextOf (c .before .before .before .before .before .before .before .before .before .before .with-query-fragment .result)) (contextOf (c .before .before .before .before .before .before .before .before .before .before .before .before .before .before .before .before .before .before .before .args .c)) _ _ _ (c .before .before .before .before .before .before .before .before .before .before .before .before .before .before .before .before .before .before .before .args .s .now) (length (c .before .before .before .before .before .before .before .before .before .before .before .before .before .before .before .before .before .before .before .args .s .now)) (c .before .before .before .before .before .before .before .before .before .before .before .before .before .before .before .parse .result .query) (c .before .before .before .before .before .before .before .before .before .before .before .before .before .before .before .parse .result .fragment) (c .before .before .before .before .before .before .before .before .before .before .with-query-fragment .ensures) (c .before .before .before .before .before .before .before .before .before .before .before .before .part .ensures) (c .before .before .before .before .before .before .before .before .before .before .before .before .before .first .ensures) (c .before .before .before .before .before .before .before .before .before .before .before .part2 .ensures)) _ (c .before .before .before .before .before .first2 .ensures) (sym (c .before .before .before .starts-with .ensures) ∙ c .before .before .if2 .taken))
-    (λ c. λ q a l. string-invalid (c .before .before .before .before .before .before .before .before .before .before .before .before .before .before .before .before .before .args .s .now) (c .before .before .before .before .before .before .before .before .before .before .before .before .before .parse .result) (c .before .before .before .before .before .before .before .before .before .before .before .before .before .parse .ensures) q (c .before .before .before .before .before .before .before .before .before .before .before .before .before .before .before .before .before .args .c) l (λ k. omega (arith, c .before .before .before .before .before .before .before .before .before .before .before .before .before .before .shared-slice-known3 .given k)) (c .before .before .before .before .before .before .before .before .before .before .before .before .if1 .left) (c .before .before .before .before .before .before .before .before .with-query-fragment .result) (context-of (contextOf (c .before .before .before .before .before .before .before .before .with-query-fragment .result)) (contextOf (c .before .before .before .before .before .before .before .before .before .before .before .before .before .before .before .before .before .args .c)) _ _ _ (c .before .before .before .before .before .before .before .before .before .before .before .before .before .before .before .before .before .args .s .now) (length (c .before .before .before .before .before .before .before .before .before .before .before .before .before .before .before .before .before .args .s .now)) (c .before .before .before .before .before .before .before .before .before .before .before .before .before .parse .result .query) (c .before .before .before .before .before .before .before .before .before .before .before .before .before .parse .result .fragment) (c .before .before .before .before .before .before .before .before .with-query-fragment .ensures) (c .before .before .before .before .before .before .before .before .before .before .part .ensures) (c .before .before .before .before .before .before .before .before .before .before .before .first .ensures) (c .before .before .before .before .before .before .before .before .before .part2 .ensures)) _ (c .before .before .before .first2 .ensures) (sym (c .before .starts-with .ensures) ∙ c .if2 .left)))
+    (λ c. λ m q a l i. c .normalized-target .ensures m q a ∙ string-valid (c .before .before .before .before .before .before .before .before .before .before .before .before .before .before .before .before .before .args .s .now) (c .before .before .before .before .before .before .before .before .before .before .before .before .before .parse .result) (c .before .before .before .before .before .before .before .before .before .before .before .before .before .parse .ensures) m q (c .before .before .before .before .before .before .before .before .before .before .before .before .before .before .before .before .before .args .c) l (λ k. omega (arith, c .before .before .before .before .before .before .before .before .before .before .before .before .before .before .shared-slice-known3 .given k)) (c .before .before .before .before .before .before .before .before .before .before .before .before .if1 .left) (c .before .before .before .before .before .before .before .before .with-query-fragment .result) (context-of m (c .before .before .before .before .before .before .before .before .before .before .before .before .before .before .before .before .before .args .at) (c .before .before .before .before .before .before .before .before .before .before .before .before .before .before .before .before .before .args .s .now) i (c .before .before .before .before .before .before .before .before .before .before .before .before .before .parse .result .query) (c .before .before .before .before .before .before .before .before .before .before .before .before .before .parse .result .fragment) _ _ _ (c .before .before .before .before .before .before .before .before .before .before .before .first .ensures) (c .before .before .before .before .before .before .before .before .before .before .part .ensures) (c .before .before .before .before .before .before .before .before .before .part2 .ensures) (c .before .before .before .before .before .before .before .before .before .before .before .before .before .before .before .before .before .args .c) (c .before .before .before .before .before .before .before .before .with-query-fragment .result) (c .before .before .before .before .before .before .before .before .with-query-fragment .ensures m)) _ (c .before .before .before .before .first2 .ensures) (sym (c .before .before .starts-with .ensures) ∙ c .before .if2 .taken))
+    (λ c. λ m q a l i. string-invalid (c .before .before .before .before .before .before .before .before .before .before .before .before .before .before .before .before .before .args .s .now) (c .before .before .before .before .before .before .before .before .before .before .before .before .before .parse .result) (c .before .before .before .before .before .before .before .before .before .before .before .before .before .parse .ensures) m q (c .before .before .before .before .before .before .before .before .before .before .before .before .before .before .before .before .before .args .c) l (λ k. omega (arith, c .before .before .before .before .before .before .before .before .before .before .before .before .before .before .shared-slice-known3 .given k)) (c .before .before .before .before .before .before .before .before .before .before .before .before .if1 .left) (c .before .before .before .before .before .before .before .before .with-query-fragment .result) (context-of m (c .before .before .before .before .before .before .before .before .before .before .before .before .before .before .before .before .before .args .at) (c .before .before .before .before .before .before .before .before .before .before .before .before .before .before .before .before .before .args .s .now) i (c .before .before .before .before .before .before .before .before .before .before .before .before .before .parse .result .query) (c .before .before .before .before .before .before .before .before .before .before .before .before .before .parse .result .fragment) _ _ _ (c .before .before .before .before .before .before .before .before .before .before .before .first .ensures) (c .before .before .before .before .before .before .before .before .before .before .part .ensures) (c .before .before .before .before .before .before .before .before .before .part2 .ensures) (c .before .before .before .before .before .before .before .before .before .before .before .before .before .before .before .before .before .args .c) (c .before .before .before .before .before .before .before .before .with-query-fragment .result) (c .before .before .before .before .before .before .before .before .with-query-fragment .ensures m)) _ (c .before .before .before .before .first2 .ensures) (sym (c .before .before .starts-with .ensures) ∙ c .before .if2 .left)))

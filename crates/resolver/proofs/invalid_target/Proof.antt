@@ -2,7 +2,7 @@ use mathlib.Core.Path.{_∙_, ap}
 use Rattle.definition.specs.Path.{andPath, limited, manifestOf}
 use Rattle.json_text.specs.Texts.{orEmpty}
 use Rattle.resolver.proofs.Manifests.{manifest-path}
-use Rattle.resolver.proofs.Matches.{key-read}
+use Rattle.exports.proofs.Places.{text-read}
 use borrow.Author.Needs.{needs}
 use Rattle.resolver.proofs.invalid_target.Statement.{statement}
 use Rattle.resolver.proofs.invalid_target.Tie as tie
@@ -46,5 +46,5 @@ invalid-target-spec =
     (λ c.
     let b = c .before .before .before .before .before .before .before .before .before .before .before .before .before .before .before .before .before .push-manifest .ensures ∙ ap (λ x. andPath x (λ p. limited (manifestOf p))) (c .before .before .before .before .before .before .before .before .before .before .before .before .before .before .before .before .before .before .from .ensures) in
     let p = c .before .before .before .before .before .before .before .before .before .before .before .before .before .first .ensures ∙ manifest-path _ _ _ b (c .before .before .before .before .before .before .before .before .before .before .before .before .before .before .before .before .before .before .before .before .before .before .before .before .before .pre .1) in
-    let k = c .before .before .before .before .text-at .ensures ∙ ap (λ x. orEmpty (x .text)) (c .before .before .before .before .before .before .before .before .read-text .ensures) ∙ key-read _ _ (c .before .before .before .before .before .before .before .before .before .before .before .before .before .before .before .before .before .before .before .before .before .before .before .before .before .pre .0) in
+    let k = c .before .before .before .before .text-at .ensures ∙ ap (λ x. orEmpty (x .text)) (c .before .before .before .before .before .before .before .before .read-text .ensures) ∙ text-read _ _ (c .before .before .before .before .before .before .before .before .before .before .before .before .before .before .before .before .before .before .before .before .before .before .before .before .before .pre .0) in
     rw (c .before .before .before .before .before .before .before .before .before .before .before .key .given .1) (record { ending = rw (p, k) at (c .before .before .finish3 .ensures .0); texts = rw (p, k) at (c .before .before .finish3 .ensures .1) })))

@@ -1,6 +1,6 @@
 use mathlib.Core.Path.{_∙_, ap}
 use Rattle.json_text.specs.Texts.{orEmpty}
-use Rattle.resolver.proofs.Matches.{key-read}
+use Rattle.exports.proofs.Places.{text-read}
 use borrow.Author.Needs.{needs}
 use Rattle.resolver.proofs.key_not_exported.Statement.{statement}
 use Rattle.resolver.proofs.key_not_exported.Tie as tie
@@ -33,5 +33,5 @@ key-not-exported-spec =
     (λ c. search needs)
     (λ c. search needs)
     (λ c.
-    let k = c .before .before .before .before .before .text-at .ensures ∙ ap (λ x. orEmpty (x .text)) (c .before .before .before .before .before .before .before .before .before .read-text .ensures) ∙ key-read _ _ (c .before .before .before .before .before .before .before .before .before .before .before .before .before .before .before .before .before .before .before .pre) in
+    let k = c .before .before .before .before .before .text-at .ensures ∙ ap (λ x. orEmpty (x .text)) (c .before .before .before .before .before .before .before .before .before .read-text .ensures) ∙ text-read _ _ (c .before .before .before .before .before .before .before .before .before .before .before .before .before .before .before .before .before .before .before .pre) in
     rw (c .before .before .before .before .before .before .before .before .before .before .before .before .key .given .1) (record { ending = rw k at (c .before .before .finish3 .ensures .0); texts = rw k at (c .before .before .finish3 .ensures .1) })))

@@ -10,4 +10,4 @@ with-query-fragment-spec =
     (tie.spec
     (λ c κs. search needs)
     (λ c κs. search needs)
-    (λ c. both _ _ (contextOf (c .before .before .before .before .before .before .args .t1)) _ _ (c .before .before .put .ensures) (c .put2 .ensures)))
+    (λ c. λ m i j. both _ _ (contextOf m (c .before .before .args .self)) _ _ (c .before .or-old .ensures m i) (c .or-old2 .ensures m j)))
