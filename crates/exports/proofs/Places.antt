@@ -23,7 +23,6 @@ use Rattle.package_json.specs.declared.Kind as kind
 use Rattle.package_json.specs.Cursors as cursors
 use Rattle.package_json.specs.Cursors.{placed}
 use Rattle.json_text.specs.Texts.{textOf, told, orEmpty}
-use Rattle.json_text.proofs.Texts.{text-read}
 use Rattle.exports.specs.declared.Kind.{Kind}
 use Rattle.exports.specs.declared.Kind.the-variants.{Scalar, String, Array, Object}
 use Rattle.exports.specs.Contexts.{readText, stringAt}
@@ -171,7 +170,7 @@ module _ {m : List ℕ} {d i : ℕ} {s : List ℕ} (h : Stands m d i (str s)) wh
   string-is = ap readText (at.text-here (h .here))
 
   pub text-target : (w w′ : List ℕ) (r : TextAt) (t : List ℕ) → 1024 ≤ length w → told m w′ r ≡ textAt (drop i m) w → t ≡ orEmpty (textOf m w′ r) → t ≡ s
-  text-target w w′ r t l e f = text-read m w w′ i r l e f (at.text-here (h .here))
+  text-target w w′ r t l e f = f ∙ ap (λ z. orEmpty (z .text)) e ∙ text-read (drop i m) w l ∙ string-is
 
 -- a key's name is a string too
 pub name-stands : (m : List ℕ) (d i : ℕ) (k s : List ℕ) → quoted (drop i m) ≡ got k s → Stands m d i (str k)
