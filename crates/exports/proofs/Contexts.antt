@@ -1,10 +1,10 @@
 -- Parts of a string, and a query or a fragment put in place of the old one.
 use mathlib.Core.Path.{_≡_, refl, sym, _∙_, ap}
 use mathlib.Core.List.{List, [], _∷_, _++_}
-use Prim.Native.Nat.{ℕ, zero, suc, _-_, _≤_}
+use Prim.Native.Nat.{ℕ, zero, suc, _+_, _-_, _≤_}
 use native.Mathlib.Omega.{arith}
 use lib.ListN.{length, drop, take, length-drop, length-take}
-use lib.Seq.{take-all}
+use lib.Seq.{take-all, take-append-le}
 use Rattle.definition.specs.Text.{overwrite}
 use Rattle.definition.specs.JsonAt.{textAt}
 use Rattle.definition.specs.Exports as exports
@@ -85,3 +85,13 @@ module _ (m : List ℕ) (p : Part) where
       unchanged : (n : ℕ) → w ≡ take n [] ++ w
       unchanged zero = refl
       unchanged (suc n) = refl
+
+-- a text at the start of a buffer that has room for it
+pub first-text : (t d : List ℕ) → length t ≤ length d → take (length t) (overwrite 0 t d) ≡ t
+unfolding overwrite
+first-text t d h =
+    let z : length d - 0 ≡ length d = omega arith in
+    rw (z, take-all (length d) t h, take-append-le (length t) t (drop (0 + length t) d) (omega arith)) (take-all (length t) t (omega arith))
+
+pub first-put : (t d w : List ℕ) → w ≡ overwrite 0 t d → length t ≤ length d → take (length t) w ≡ t
+first-put t d w e h = ap (take (length t)) e ∙ first-text t d h

@@ -24,7 +24,7 @@ use Rattle.exports.specs.declared.Outcome.the-variants.{Found, Nothing, 
 use Rattle.exports.specs.declared.Context.{Context}
 use Rattle.exports.specs.declared.Answer.{Answer}
 use Rattle.exports.specs.Contexts.{contextOf}
-use Rattle.exports.specs.Answers.{pathText, outcomeIn, answerOf, resolved, isSome, isNothing, isFinal, isPassed}
+use Rattle.exports.specs.Answers.{outcomeIn, answerOf, resolved, isSome, isNothing, isFinal, isPassed}
 use Rattle.exports.proofs.Targets.{outcome-is}
 
 none : {P : Type 0} → ⊥ → P
@@ -156,22 +156,22 @@ module _ {m : List ℕ} {d : ℕ} {q : Request} {n : ℕ} {cursor : Cursor} {c :
       go (At i) e = none (no-element-left (rw e at (g .from)) (let z : n ≡ 0 = omega arith in z))
 
   module _ {i : ℕ} (e : cursor ≡ At i) (next : Cursor) (f : (n : ℕ) (j : Json) (js : Elements) → ElementsAt m d n i (element j js) → Stands m d i j × ElementsFrom m d (n - 1) js next)
-      (R : Answer) (r : (j : Json) → Stands m d i j → answerOf m q R ≡ PACKAGE-TARGET-RESOLVE q j c) where
+      (path : List ℕ) (R : Answer) (r : (j : Json) → Stands m d i j → answerOf m q path R ≡ PACKAGE-TARGET-RESOLVE q j c) where
     this : OneElement m d n i (g .others)
     this = one-of (rw e at (g .from))
 
     both-this : Stands m d i (this .val) × ElementsFrom m d (n - 1) (this .others) next
     both-this = f n (this .val) (this .others) (rw (this .is) at (rw e at (g .from)))
 
-    step : x ≡ orNext (this .others) (answerOf m q R) (λ c. eachElement q (this .others) c)
+    step : x ≡ orNext (this .others) (answerOf m q path R) (λ c. eachElement q (this .others) c)
     unfolding eachElement
     step = g .same ∙ ap (λ js. eachElement q js c) (this .is) ∙ ap (λ y. orNext (this .others) y (λ c. eachElement q (this .others) c)) (sym (r (this .val) (both-this .0)))
 
-    pub array-stop : isPassed (R .outcome) next ≡ false → x ≡ answerOf m q R
-    array-stop p = step ∙ next-stop q (contextOf m (R .context)) (pathText (R .path)) (R .outcome) (this .others) next (λ c. eachElement q (this .others) c) m d (n - 1) (both-this .1) p
+    pub array-stop : isPassed (R .outcome) next ≡ false → x ≡ answerOf m q path R
+    array-stop p = step ∙ next-stop q (contextOf m (R .context)) (take (R .len) path) (R .outcome) (this .others) next (λ c. eachElement q (this .others) c) m d (n - 1) (both-this .1) p
 
     pub array-on : isPassed (R .outcome) next ≡ true → ArrayLeft m d q (n - 1) next (contextOf m (R .context)) x
-    array-on p = record { others = this .others; from = both-this .1; same = step ∙ next-on q (contextOf m (R .context)) (pathText (R .path)) (R .outcome) (this .others) next (λ c. eachElement q (this .others) c) m d (n - 1) (both-this .1) p }
+    array-on p = record { others = this .others; from = both-this .1; same = step ∙ next-on q (contextOf m (R .context)) (take (R .len) path) (R .outcome) (this .others) next (λ c. eachElement q (this .others) c) m d (n - 1) (both-this .1) p }
 
 -- objects: the members that are left
 pub record ObjectLeft (m : List ℕ) (d : ℕ) (q : Request) (n : ℕ) (cursor : Cursor) (c : exports.Context) (x : exports.Resolved) : Type 0 where
@@ -239,17 +239,17 @@ module _ {m : List ℕ} {d : ℕ} {q : Request} {n : ℕ} {cursor : Cursor} {c :
     pub object-skip : b ≡ false → ObjectLeft m d q (n - 1) next c x
     object-skip h = record { others = that .others; from = both-that .1; same = stepped ∙ pick-false b (orGoOn (PACKAGE-TARGET-RESOLVE q (that .val) c) (λ d. eachCondition q (that .others) d)) (eachCondition q (that .others) c) h }
 
-    module _ (h : b ≡ true) (R : Answer) (r : (j : Json) → Stands m d v j → answerOf m q R ≡ PACKAGE-TARGET-RESOLVE q j c) where
-      taken : x ≡ orGoOn (answerOf m q R) (λ d. eachCondition q (that .others) d)
+    module _ (h : b ≡ true) (path : List ℕ) (R : Answer) (r : (j : Json) → Stands m d v j → answerOf m q path R ≡ PACKAGE-TARGET-RESOLVE q j c) where
+      taken : x ≡ orGoOn (answerOf m q path R) (λ d. eachCondition q (that .others) d)
       taken =
           stepped ∙ pick-true b (orGoOn (PACKAGE-TARGET-RESOLVE q (that .val) c) (λ d. eachCondition q (that .others) d)) (eachCondition q (that .others) c) h
           ∙ ap (λ y. orGoOn y (λ d. eachCondition q (that .others) d)) (sym (r (that .val) (both-that .0)))
 
-      pub object-stop : isNothing (R .outcome) ≡ false → x ≡ answerOf m q R
-      object-stop u = taken ∙ go-stop q (contextOf m (R .context)) (pathText (R .path)) (R .outcome) (λ d. eachCondition q (that .others) d) u
+      pub object-stop : isNothing (R .outcome) ≡ false → x ≡ answerOf m q path R
+      object-stop u = taken ∙ go-stop q (contextOf m (R .context)) (take (R .len) path) (R .outcome) (λ d. eachCondition q (that .others) d) u
 
       pub object-on : isNothing (R .outcome) ≡ true → ObjectLeft m d q (n - 1) next (contextOf m (R .context)) x
-      object-on u = record { others = that .others; from = both-that .1; same = taken ∙ go-on q (contextOf m (R .context)) (pathText (R .path)) (R .outcome) (λ d. eachCondition q (that .others) d) u }
+      object-on u = record { others = that .others; from = both-that .1; same = taken ∙ go-on q (contextOf m (R .context)) (take (R .len) path) (R .outcome) (λ d. eachCondition q (that .others) d) u }
 
 -- brackets where no depth is left
 module _ {m : List ℕ} {d i : ℕ} {j : Json} (h : Stands m d i j) where

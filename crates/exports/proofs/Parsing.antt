@@ -106,15 +106,18 @@ module _ (s : List ℕ) (r : answer.Specifier) (e : meant s r ≡ partsOf (parse
       go emptySpecifier i g = absurd (let o : _≡_ {A = ℕ} 0 1 = cc in omega arith)
 
   module _ (m : List ℕ) (q : Request) (c : Context) (l : length s ≤ 1024) where
-    pub string-empty : r .empty ≡ true → (p : PathBuf) → pathOf p ≡ limited s → resolved m c (outcomeIn (q .packageURL) (q .key) (q .matched) Empty (pathText p)) ≡ stringTarget q (parseSpecifier s) s (contextOf m c)
+    pub string-empty : r .empty ≡ true → resolved m c (outcomeIn (q .packageURL) (q .key) (q .matched) Empty s) ≡ stringTarget q (parseSpecifier s) s (contextOf m c)
     unfolding stringTarget
-    string-empty h p f = rw (is-empty h, path-text p s f (omega arith))
+    string-empty h = rw (is-empty h)
 
     module _ (b : Bytes s) (h : r .empty ≡ false) (d : Context)
         (w : contextOf m d ≡ withQueryFragment (contextOf m c) (drop (r .query) (take (r .fragment) s)) (drop (r .fragment) s))
         (t : List ℕ) (f : t ≡ pathText (r .path)) where
       text-is : t ≡ is-parsed h .path
       text-is = let p = is-parsed h in f ∙ path-text (r .path) (p .path) (p .limits) (omega (arith, parsed-size s (p .path) (drop (r .query) (take (r .fragment) s)) (drop (r .fragment) s) b (p .is)))
+
+      pub text-fits : length t ≤ 2048
+      text-fits = let p = is-parsed h in omega (arith, ap length text-is, parsed-size s (p .path) (drop (r .query) (take (r .fragment) s)) (drop (r .fragment) s) b (p .is))
 
       whole : (o : exports.Outcome) → o ≡ (if startsWith (text "./") t then targetPath q (normalizeStringTarget (q .key) t (q .matched)) else invalidTarget q t) → resolved m d o ≡ stringTarget q (parseSpecifier s) s (contextOf m c)
       unfolding stringTarget
@@ -123,9 +126,9 @@ module _ (s : List ℕ) (r : answer.Specifier) (e : meant s r ≡ partsOf (parse
       pub string-valid : startsWith (text "./") t ≡ true → resolved m d (targetPath q (normalizeStringTarget (q .key) t (q .matched))) ≡ stringTarget q (parseSpecifier s) s (contextOf m c)
       string-valid g = whole _ (rw g)
 
-      pub string-invalid : startsWith (text "./") t ≡ false → resolved m d (outcomeIn (q .packageURL) (q .key) (q .matched) InvalidTarget (pathText (r .path))) ≡ stringTarget q (parseSpecifier s) s (contextOf m c)
+      pub string-invalid : startsWith (text "./") t ≡ false → resolved m d (outcomeIn (q .packageURL) (q .key) (q .matched) InvalidTarget t) ≡ stringTarget q (parseSpecifier s) s (contextOf m c)
       unfolding invalidTarget
-      string-invalid g = whole _ (rw g (ap (invalidTarget q) (sym f)))
+      string-invalid g = whole _ (rw g)
 
 -- the context from the parts that the code cuts out
 module _ (m : List ℕ) (at : ℕ) (s : List ℕ) (i : stringAt m at ≡ s) (q f : ℕ) (g x y : List ℕ) (h : g ≡ take f s) (j : x ≡ take (length s) (drop q g)) (k : y ≡ take (length s) (drop f s)) (c d : Context) where

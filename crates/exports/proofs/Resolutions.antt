@@ -28,7 +28,7 @@ use Rattle.exports.specs.declared.Key.the-variants.{Subpath, At}
 use Rattle.exports.specs.declared.Resolved.{Resolved}
 use Rattle.exports.specs.Keys.{matchOf}
 use Rattle.exports.specs.Contexts.{readText, contextOf}
-use Rattle.exports.specs.Answers.{pathText, outcomeIn, answerOf, Formed, Requested, isNothing}
+use Rattle.exports.specs.Answers.{outcomeIn, answerOf, Formed, Requested, isNothing}
 use Rattle.exports.specs.Chosen.{Chosen, BestOf, formOf, keyText, resolvedOf, dotRequest, keysOrNot, IsWhole}
 use Rattle.exports.proofs.Loops.{nothingYet, go-stop, go-on}
 
@@ -36,12 +36,12 @@ clash : {P : Type 0} → true ≡ false → P
 clash e = absurd (let z : _≡_ {A = ℕ} 0 1 = cc in omega arith)
 
 -- an end that speaks of the subpath
-pub subpath-is : (m url subpath : List ℕ) (r : Resolved) (c : Context) (o : Outcome) → (r .answer .context ≡ c) × (r .answer .outcome ≡ o) × (r .key ≡ Subpath)
-    → resolvedOf m url subpath r ≡ record { context = contextOf m c; outcome = outcomeIn url subpath (matchOf subpath (r .matched)) o (pathText (r .answer .path)) }
-subpath-is m url subpath r c o e =
-    ap (λ x. record { context = contextOf m x; outcome = outcomeIn url (keyText m subpath (r .key)) (matchOf subpath (r .matched)) (r .answer .outcome) (pathText (r .answer .path)) }) (e .0)
-    ∙ ap (λ x. record { context = contextOf m c; outcome = outcomeIn url (keyText m subpath (r .key)) (matchOf subpath (r .matched)) x (pathText (r .answer .path)) }) (e .1)
-    ∙ ap (λ x. record { context = contextOf m c; outcome = outcomeIn url (keyText m subpath x) (matchOf subpath (r .matched)) o (pathText (r .answer .path)) }) (e .2)
+pub subpath-is : (m url subpath path : List ℕ) (r : Resolved) (c : Context) (o : Outcome) → (r .answer .context ≡ c) × (r .answer .outcome ≡ o) × (r .key ≡ Subpath)
+    → resolvedOf m url subpath path r ≡ record { context = contextOf m c; outcome = outcomeIn url subpath (matchOf subpath (r .matched)) o (take (r .answer .len) path) }
+subpath-is m url subpath path r c o e =
+    ap (λ x. record { context = contextOf m x; outcome = outcomeIn url (keyText m subpath (r .key)) (matchOf subpath (r .matched)) (r .answer .outcome) (take (r .answer .len) path) }) (e .0)
+    ∙ ap (λ x. record { context = contextOf m c; outcome = outcomeIn url (keyText m subpath (r .key)) (matchOf subpath (r .matched)) x (take (r .answer .len) path) }) (e .1)
+    ∙ ap (λ x. record { context = contextOf m c; outcome = outcomeIn url (keyText m subpath x) (matchOf subpath (r .matched)) o (take (r .answer .len) path) }) (e .2)
 
 -- a member's value that was looked for
 pub finds-some : (m : List ℕ) (d : ℕ) (o : Option Json) (r : Cursor) (i : ℕ) → Finds m d o r → r ≡ FoundAt i → (j : Json) × ((o ≡ some j) × Stands m d i j)
@@ -101,10 +101,10 @@ module _ (m mk url : List ℕ) (b : Best) (e : Entry) (h : Chosen m mk b e) wher
       go true s = (h .matched, s)
       go false s = (h .matched, s, folder-ends mk (e .key) (take (b .len) (drop (b .start) mk)) (h .matched) s)
 
-  pub chosen-key : (conds : List (List ℕ)) (a : Answer) → resolvedOf m url mk (record { answer = a; key = At (b .key); matched = Part (b .start) (b .len) }) ≡ answerOf m (patternRequest url mk e conds) a
-  chosen-key conds a =
-      ap (λ x. record { context = contextOf m (a .context); outcome = outcomeIn url x (some (take (b .len) (drop (b .start) mk))) (a .outcome) (pathText (a .path)) }) (ap readText (h .named))
-      ∙ ap (λ x. record { context = contextOf m (a .context); outcome = outcomeIn url (e .key) x (a .outcome) (pathText (a .path)) }) (sym (h .matched))
+  pub chosen-key : (conds : List (List ℕ)) (path : List ℕ) (a : Answer) → resolvedOf m url mk path (record { answer = a; key = At (b .key); matched = Part (b .start) (b .len) }) ≡ answerOf m (patternRequest url mk e conds) path a
+  chosen-key conds path a =
+      ap (λ x. record { context = contextOf m (a .context); outcome = outcomeIn url x (some (take (b .len) (drop (b .start) mk))) (a .outcome) (take (a .len) path) }) (ap readText (h .named))
+      ∙ ap (λ x. record { context = contextOf m (a .context); outcome = outcomeIn url (e .key) x (a .outcome) (take (a .len) path) }) (sym (h .matched))
 
 module _ (m mk : List ℕ) (b : Best) where
   pub best-none : (o : Option Entry) → BestOf m mk b o → b .found ≡ false → o ≡ none
@@ -172,15 +172,15 @@ module _ (url : List ℕ) (conds : List (List ℕ)) (subpath : List ℕ) (c : ex
   whole-main (arr js) w e = rw e
   whole-main (obj ms) w e = absurd w
 
-  module _ (m : List ℕ) (j : Json) (w : IsWhole j) (e : equal subpath (text ".") ≡ true) (a : Answer) (f : answerOf m (dotRequest url conds) a ≡ PACKAGE-TARGET-RESOLVE (dotRequest url conds) j c) where
-    pub whole-stop : isNothing (a .outcome) ≡ false → answerOf m (dotRequest url conds) a ≡ PACKAGE-EXPORTS-RESOLVE url conds subpath j c
+  module _ (m path : List ℕ) (j : Json) (w : IsWhole j) (e : equal subpath (text ".") ≡ true) (a : Answer) (f : answerOf m (dotRequest url conds) path a ≡ PACKAGE-TARGET-RESOLVE (dotRequest url conds) j c) where
+    pub whole-stop : isNothing (a .outcome) ≡ false → answerOf m (dotRequest url conds) path a ≡ PACKAGE-EXPORTS-RESOLVE url conds subpath j c
     whole-stop n =
-        sym (go-stop (dotRequest url conds) (contextOf m (a .context)) (pathText (a .path)) (a .outcome) (λ d. record { context = d; outcome = pathNotExported subpath url }) n)
+        sym (go-stop (dotRequest url conds) (contextOf m (a .context)) (take (a .len) path) (a .outcome) (λ d. record { context = d; outcome = pathNotExported subpath url }) n)
         ∙ ap (λ x. orGoOn x (λ d. record { context = d; outcome = pathNotExported subpath url })) f ∙ whole-main j w e
 
     pub whole-on : isNothing (a .outcome) ≡ true → record { context = contextOf m (a .context); outcome = pathNotExported subpath url } ≡ PACKAGE-EXPORTS-RESOLVE url conds subpath j c
     whole-on n =
-        sym (go-on (dotRequest url conds) (contextOf m (a .context)) (pathText (a .path)) (a .outcome) (λ d. record { context = d; outcome = pathNotExported subpath url }) n)
+        sym (go-on (dotRequest url conds) (contextOf m (a .context)) (take (a .len) path) (a .outcome) (λ d. record { context = d; outcome = pathNotExported subpath url }) n)
         ∙ ap (λ x. orGoOn x (λ d. record { context = d; outcome = pathNotExported subpath url })) f ∙ whole-main j w e
 
   -- the keys of an object
@@ -189,15 +189,15 @@ module _ (url : List ℕ) (conds : List (List ℕ)) (subpath : List ℕ) (c : ex
     unfolding keyResolve
     keys-are = refl
 
-    module _ (m : List ℕ) (r : Resolved) (f : resolvedOf m url subpath r ≡ PACKAGE-IMPORTS-EXPORTS-RESOLVE url conds subpath (entries ms) c) where
-      pub keys-stop : isNothing (r .answer .outcome) ≡ false → resolvedOf m url subpath r ≡ keysOrNot url conds subpath (obj ms) c
+    module _ (m path : List ℕ) (r : Resolved) (f : resolvedOf m url subpath path r ≡ PACKAGE-IMPORTS-EXPORTS-RESOLVE url conds subpath (entries ms) c) where
+      pub keys-stop : isNothing (r .answer .outcome) ≡ false → resolvedOf m url subpath path r ≡ keysOrNot url conds subpath (obj ms) c
       keys-stop n =
-          sym (go-stop (record { packageURL = url; key = keyText m subpath (r .key); matched = matchOf subpath (r .matched); conditions = conds }) (contextOf m (r .answer .context)) (pathText (r .answer .path)) (r .answer .outcome) (λ d. record { context = d; outcome = pathNotExported subpath url }) n)
+          sym (go-stop (record { packageURL = url; key = keyText m subpath (r .key); matched = matchOf subpath (r .matched); conditions = conds }) (contextOf m (r .answer .context)) (take (r .answer .len) path) (r .answer .outcome) (λ d. record { context = d; outcome = pathNotExported subpath url }) n)
           ∙ ap (λ x. orGoOn x (λ d. record { context = d; outcome = pathNotExported subpath url })) (f ∙ keys-are)
 
       pub keys-on : isNothing (r .answer .outcome) ≡ true → record { context = contextOf m (r .answer .context); outcome = pathNotExported subpath url } ≡ keysOrNot url conds subpath (obj ms) c
       keys-on n =
-          sym (go-on (record { packageURL = url; key = keyText m subpath (r .key); matched = matchOf subpath (r .matched); conditions = conds }) (contextOf m (r .answer .context)) (pathText (r .answer .path)) (r .answer .outcome) (λ d. record { context = d; outcome = pathNotExported subpath url }) n)
+          sym (go-on (record { packageURL = url; key = keyText m subpath (r .key); matched = matchOf subpath (r .matched); conditions = conds }) (contextOf m (r .answer .context)) (take (r .answer .len) path) (r .answer .outcome) (λ d. record { context = d; outcome = pathNotExported subpath url }) n)
           ∙ ap (λ x. orGoOn x (λ d. record { context = d; outcome = pathNotExported subpath url })) (f ∙ keys-are)
 
     pub object-mixed : (anyKey isDotKey (entries ms) && anyKey (λ k. not (isDotKey k)) (entries ms)) ≡ true → record { context = c; outcome = failed (InvalidPackageConfig (manifestOf url)) } ≡ PACKAGE-EXPORTS-RESOLVE url conds subpath (obj ms) c
@@ -213,15 +213,15 @@ module _ (url : List ℕ) (conds : List (List ℕ)) (subpath : List ℕ) (c : ex
       unfolding PACKAGE-EXPORTS-RESOLVE isMixed
       object-main e = rw (h, e)
 
-      module _ (e : equal subpath (text ".") ≡ true) (m : List ℕ) (a : Answer) (f : answerOf m (dotRequest url conds) a ≡ mainResolve url conds (mainExport (obj ms)) c) where
-        pub main-stop : isNothing (a .outcome) ≡ false → answerOf m (dotRequest url conds) a ≡ PACKAGE-EXPORTS-RESOLVE url conds subpath (obj ms) c
+      module _ (e : equal subpath (text ".") ≡ true) (m path : List ℕ) (a : Answer) (f : answerOf m (dotRequest url conds) path a ≡ mainResolve url conds (mainExport (obj ms)) c) where
+        pub main-stop : isNothing (a .outcome) ≡ false → answerOf m (dotRequest url conds) path a ≡ PACKAGE-EXPORTS-RESOLVE url conds subpath (obj ms) c
         main-stop n =
-            sym (go-stop (dotRequest url conds) (contextOf m (a .context)) (pathText (a .path)) (a .outcome) (λ d. keysOrNot url conds subpath (obj ms) d) n)
+            sym (go-stop (dotRequest url conds) (contextOf m (a .context)) (take (a .len) path) (a .outcome) (λ d. keysOrNot url conds subpath (obj ms) d) n)
             ∙ ap (λ x. orGoOn x (λ d. keysOrNot url conds subpath (obj ms) d)) f ∙ object-main e
 
         pub main-on : isNothing (a .outcome) ≡ true → keysOrNot url conds subpath (obj ms) (contextOf m (a .context)) ≡ PACKAGE-EXPORTS-RESOLVE url conds subpath (obj ms) c
         main-on n =
-            sym (go-on (dotRequest url conds) (contextOf m (a .context)) (pathText (a .path)) (a .outcome) (λ d. keysOrNot url conds subpath (obj ms) d) n)
+            sym (go-on (dotRequest url conds) (contextOf m (a .context)) (take (a .len) path) (a .outcome) (λ d. keysOrNot url conds subpath (obj ms) d) n)
             ∙ ap (λ x. orGoOn x (λ d. keysOrNot url conds subpath (obj ms) d)) f ∙ object-main e
 
 pub whole-string : (j : Json) → String ≡ kindOf j → IsWhole j

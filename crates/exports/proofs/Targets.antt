@@ -26,11 +26,15 @@ use Rattle.exports.specs.Answers.{pathText, outcomeIn, answerOf, resolve
 clash : {P : Type 0} {x : List ℕ} → built x ≡ tooLong → P
 clash e = absurd (let z : _≡_ {A = ℕ} 0 1 = cc in omega arith)
 
--- an answer without a path
-pub outcome-is : (m : List ℕ) (q : Request) (r : Answer) (c : Context) (o : Outcome) → (r .context ≡ c) × (r .outcome ≡ o) → answerOf m q r ≡ resolved m c (outcomeIn (q .packageURL) (q .key) (q .matched) o (pathText (r .path)))
-outcome-is m q r c o e =
-    ap (λ x. resolved m x (outcomeIn (q .packageURL) (q .key) (q .matched) (r .outcome) (pathText (r .path)))) (e .0)
-    ∙ ap (λ x. resolved m c (outcomeIn (q .packageURL) (q .key) (q .matched) x (pathText (r .path)))) (e .1)
+-- an answer without a path, and with one
+module _ (m : List ℕ) (q : Request) (path : List ℕ) (r : Answer) (c : Context) (o : Outcome) where
+  pub outcome-is : (r .context ≡ c) × (r .outcome ≡ o) → answerOf m q path r ≡ resolved m c (outcomeIn (q .packageURL) (q .key) (q .matched) o (take (r .len) path))
+  outcome-is e =
+      ap (λ x. resolved m x (outcomeIn (q .packageURL) (q .key) (q .matched) (r .outcome) (take (r .len) path))) (e .0)
+      ∙ ap (λ x. resolved m c (outcomeIn (q .packageURL) (q .key) (q .matched) x (take (r .len) path))) (e .1)
+
+  pub path-put : (t old : List ℕ) → (r .context ≡ c) × (r .outcome ≡ o) × (length t ≤ length old → take (r .len) path ≡ t) → length t ≤ length old → answerOf m q path r ≡ resolved m c (outcomeIn (q .packageURL) (q .key) (q .matched) o t)
+  path-put t old e l = outcome-is (e .0, e .1) ∙ ap (λ x. resolved m c (outcomeIn (q .packageURL) (q .key) (q .matched) o x)) (e .2 l)
 
 -- a text under the limit
 limited-fits : (t : List ℕ) → length t ≤ 2048 → limited t ≡ built t
@@ -81,9 +85,9 @@ module _ (q : Request) (t : List ℕ) where
     unfolding targetPath
     invalid-is i = rw (le-ltb 2048 (length t) h, i)
 
-    pub target-invalid : isInvalidExportsTarget t ≡ true → (p : PathBuf) → pathOf p ≡ limited t → outcomeIn (q .packageURL) (q .key) (q .matched) InvalidTarget (pathText p) ≡ targetPath q (target t)
+    pub target-invalid : isInvalidExportsTarget t ≡ true → outcomeIn (q .packageURL) (q .key) (q .matched) InvalidTarget t ≡ targetPath q (target t)
     unfolding invalidTarget
-    target-invalid i p e = ap (λ u. invalidTarget q u) (path-text p t e h) ∙ invalid-is i
+    target-invalid i = invalid-is i
 
     module _ (i : isInvalidExportsTarget t ≡ false) (url : List ℕ) (u : q .packageURL ≡ url) (p : PathBuf) (e : pathOf p ≡ normalizeWith url t) where
       path-is : outcomeOf (normalizeWith url t) ≡ targetPath q (target t)

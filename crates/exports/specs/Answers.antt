@@ -42,8 +42,9 @@ outcomeIn url key matched OverLong t = overlong
 abbrev pub resolved : (m : List ℕ) → Context → exports.Outcome → exports.Resolved
 resolved m c o = record { context = contextOf m c; outcome = o }
 
-abbrev pub answerOf : (m : List ℕ) → Request → Answer → exports.Resolved
-answerOf m q r = resolved m (r .context) (outcomeIn (q .packageURL) (q .key) (q .matched) (r .outcome) (pathText (r .path)))
+-- an answer, whose text is the first of the bytes in the path buffer
+abbrev pub answerOf : (m : List ℕ) → Request → (path : List ℕ) → Answer → exports.Resolved
+answerOf m q path r = resolved m (r .context) (outcomeIn (q .packageURL) (q .key) (q .matched) (r .outcome) (take (r .len) path))
 
 -- a request, as far as it decides what a target gives
 abbrev pub Formed : Request → Form → (pattern : List ℕ) → Type 0
@@ -61,8 +62,8 @@ pub record Requested (q : Request) (settings url : List ℕ) (form : Form) (patt
   pub conditions : q .conditions ≡ textsOf settings 0
 
 -- a target of the manifest m was resolved
-pub record Resolves (m : List ℕ) (at depth : ℕ) (settings url : List ℕ) (form : Form) (pattern : List ℕ) (c : Context) (r : Answer) : Type 0 where
-  pub is : (q : Request) → Requested q settings url form pattern → (j : Json) → Stands m depth at j → answerOf m q r ≡ PACKAGE-TARGET-RESOLVE q j (contextOf m c)
+pub record Resolves (m : List ℕ) (at depth : ℕ) (settings url : List ℕ) (form : Form) (pattern : List ℕ) (c : Context) (path : List ℕ) (r : Answer) : Type 0 where
+  pub is : (q : Request) → Requested q settings url form pattern → (j : Json) → Stands m depth at j → answerOf m q path r ≡ PACKAGE-TARGET-RESOLVE q j (contextOf m c)
 
 -- which answers let the next condition, or the next element, be tried
 abbrev pub isNothing : Outcome → Bool

@@ -19,7 +19,7 @@ use Rattle.exports.specs.declared.Key.the-variants.{Dot, Subpath, At}
 use Rattle.exports.specs.declared.Resolved.{Resolved}
 use Rattle.exports.specs.Keys.{rankOf, matchOf}
 use Rattle.exports.specs.Contexts.{stringAt, contextOf}
-use Rattle.exports.specs.Answers.{pathText, outcomeIn}
+use Rattle.exports.specs.Answers.{outcomeIn}
 
 -- what one key begins with, and the keys of some members
 abbrev pub aKey : List ℕ → KeyMarks
@@ -54,11 +54,11 @@ keyText m subpath Dot = text "."
 keyText m subpath Subpath = subpath
 keyText m subpath (At i) = stringAt m i
 
-abbrev pub resolvedOf : (m url subpath : List ℕ) → Resolved → exports.Resolved
-resolvedOf m url subpath r =
+abbrev pub resolvedOf : (m url subpath path : List ℕ) → Resolved → exports.Resolved
+resolvedOf m url subpath path r =
     record {
       context = contextOf m (r .answer .context);
-      outcome = outcomeIn url (keyText m subpath (r .key)) (matchOf subpath (r .matched)) (r .answer .outcome) (pathText (r .answer .path));
+      outcome = outcomeIn url (keyText m subpath (r .key)) (matchOf subpath (r .matched)) (r .answer .outcome) (take (r .answer .len) path);
     }
 
 -- no query and no fragment yet

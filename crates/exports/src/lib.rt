@@ -264,9 +264,10 @@ pub enum Outcome {
     OverLong,
 }
 
+// The path, or the target, is the first `len` bytes of a lent buffer.
 pub struct Answer {
     pub context: Context,
-    pub path: PathBuf,
+    pub len: usize,
     pub outcome: Outcome,
 }
 
@@ -282,71 +283,86 @@ fn without_path(c: Context, outcome: Outcome) -> Answer
 {
     Answer {
         context: c,
-        path: PathBuf::new(),
+        len: 0,
+        outcome,
+    }
+}
+
+fn with_path(c: Context, outcome: Outcome, t: &[u8], path: &mut [u8]) -> Answer
+    ensures { λ r. ⌜ (r .context ≡ c) × (r .outcome ≡ outcome) × (length (now (t .entry)) ≤ length (now (path .entry)) → take (r .len) (now (path .exit)) ≡ now (t .entry)) ⌝ }
+{
+    text::copy_at(path, 0, t);
+    Answer {
+        context: c,
+        len: t.len(),
         outcome,
     }
 }
 
 // A target, with the match put in, below the package's directory.
-fn target_path(url: &[u8], t: &[u8], c: Context) -> Answer
-    ensures { λ r. ⌜ ((m : List ℕ) (q : Request) → q .packageURL ≡ now (url .entry) → answerOf m q r ≡ resolved m c (targetPath q (target (now (t .entry))))) ⌝ }
+fn target_path(url: &[u8], t: &[u8], c: Context, path: &mut [u8]) -> Answer
+    requires { ⌜ 2048 ≤ length (now path) ⌝ }
+    ensures { λ r. ⌜ ((m : List ℕ) (q : Request) → q .packageURL ≡ now (url .entry) → answerOf m q (now (path .exit)) r ≡ resolved m c (targetPath q (target (now (t .entry))))) ⌝ }
 {
     if t.len() > 2048 {
         return without_path(c, Outcome::OverLong);
     }
     if path::is_invalid_exports_target(t) {
-        return Answer {
-            context: c,
-            path: PathBuf::from(t),
-            outcome: Outcome::InvalidTarget,
-        };
+        return with_path(c, Outcome::InvalidTarget, t, path);
     }
-    let path = path::normalize_with(url, t);
-    if path.len > 2048 {
+    let p = path::normalize_with(url, t);
+    let n = p.len;
+    if n > 2048 {
         return without_path(c, Outcome::OverLong);
     }
-    Answer {
-        context: c,
-        path,
-        outcome: Outcome::Found,
-    }
+    with_path(c, Outcome::Found, path::first(&p.bytes, n), path)
 }
 
-fn starred_target(url: &[u8], t: &[u8], pattern: &[u8], c: Context) -> Answer
-    ensures { λ r. ⌜ ((m : List ℕ) (q : Request) → q .packageURL ≡ now (url .entry) → answerOf m q r ≡ resolved m c (targetPath q (target (replace star (now (pattern .entry)) (now (t .entry)))))) ⌝ }
+fn starred_target(url: &[u8], t: &[u8], pattern: &[u8], c: Context, path: &mut [u8]) -> Answer
+    requires { ⌜ 2048 ≤ length (now path) ⌝ }
+    ensures { λ r. ⌜ ((m : List ℕ) (q : Request) → q .packageURL ≡ now (url .entry) → answerOf m q (now (path .exit)) r ≡ resolved m c (targetPath q (target (replace star (now (pattern .entry)) (now (t .entry)))))) ⌝ }
 {
     let p = substitute(t, pattern);
     let n = p.len;
     if n > 2048 {
         return without_path(c, Outcome::OverLong);
     }
-    target_path(url, path::first(&p.bytes, n), c)
+    target_path(url, path::first(&p.bytes, n), c, path)
 }
 
-fn folder_target(url: &[u8], t: &[u8], pattern: &[u8], c: Context) -> Answer
-    ensures { λ r. ⌜ ((m : List ℕ) (q : Request) → q .packageURL ≡ now (url .entry) → answerOf m q r ≡ resolved m c (targetPath q (target (now (t .entry) ++ now (pattern .entry))))) ⌝ }
+fn folder_target(url: &[u8], t: &[u8], pattern: &[u8], c: Context, path: &mut [u8]) -> Answer
+    requires { ⌜ 2048 ≤ length (now path) ⌝ }
+    ensures { λ r. ⌜ ((m : List ℕ) (q : Request) → q .packageURL ≡ now (url .entry) → answerOf m q (now (path .exit)) r ≡ resolved m c (targetPath q (target (now (t .entry) ++ now (pattern .entry))))) ⌝ }
 {
     let p = PathBuf::from(t).append(pattern);
     let n = p.len;
     if n > 2048 {
         return without_path(c, Outcome::OverLong);
     }
-    target_path(url, path::first(&p.bytes, n), c)
+    target_path(url, path::first(&p.bytes, n), c, path)
 }
 
 // `normalize_string_target`, and what it gives.
-fn normalized_target(url: &[u8], form: Form, pattern: &[u8], t: &[u8], c: Context) -> Answer
-    ensures { λ r. ⌜ ((m : List ℕ) (q : Request) → Asked q (now (url .entry)) form (now (pattern .entry)) → answerOf m q r ≡ resolved m c (targetPath q (normalizeStringTarget (q .key) (now (t .entry)) (q .matched)))) ⌝ }
+fn normalized_target(
+    url: &[u8],
+    form: Form,
+    pattern: &[u8],
+    t: &[u8],
+    c: Context,
+    path: &mut [u8],
+) -> Answer
+    requires { ⌜ 2048 ≤ length (now path) ⌝ }
+    ensures { λ r. ⌜ ((m : List ℕ) (q : Request) → Asked q (now (url .entry)) form (now (pattern .entry)) → answerOf m q (now (path .exit)) r ≡ resolved m c (targetPath q (normalizeStringTarget (q .key) (now (t .entry)) (q .matched)))) ⌝ }
 {
     match form {
-        Form::Plain => target_path(url, t, c),
-        Form::Starred => starred_target(url, t, pattern, c),
+        Form::Plain => target_path(url, t, c, path),
+        Form::Starred => starred_target(url, t, pattern, c, path),
         Form::Folder => {
             if text::contains(t, b'*') {
-                return starred_target(url, t, pattern, c);
+                return starred_target(url, t, pattern, c, path);
             }
             if text::ends_with(t, b"/") {
-                return folder_target(url, t, pattern, c);
+                return folder_target(url, t, pattern, c, path);
             }
             without_path(c, Outcome::ConfigDirectory)
         }
@@ -354,16 +370,21 @@ fn normalized_target(url: &[u8], form: Form, pattern: &[u8], t: &[u8], c: Contex
 }
 
 // The text of the string at a place as a target, which has at most 1,024 bytes.
-fn text_target(url: &[u8], form: Form, pattern: &[u8], s: &[u8], at: usize, c: Context) -> Answer
-    ensures { λ r. ⌜ ((m : List ℕ) (q : Request) → Asked q (now (url .entry)) form (now (pattern .entry)) → length (now (s .entry)) ≤ 1024 → stringAt m at ≡ now (s .entry) → answerOf m q r ≡ stringTarget q (parseSpecifier (now (s .entry))) (now (s .entry)) (contextOf m c)) ⌝ }
+fn text_target(
+    url: &[u8],
+    form: Form,
+    pattern: &[u8],
+    s: &[u8],
+    at: usize,
+    c: Context,
+    path: &mut [u8],
+) -> Answer
+    requires { ⌜ 2048 ≤ length (now path) ⌝ }
+    ensures { λ r. ⌜ ((m : List ℕ) (q : Request) → Asked q (now (url .entry)) form (now (pattern .entry)) → length (now (s .entry)) ≤ 1024 → stringAt m at ≡ now (s .entry) → answerOf m q (now (path .exit)) r ≡ stringTarget q (parseSpecifier (now (s .entry))) (now (s .entry)) (contextOf m c)) ⌝ }
 {
     let parsed = Specifier::parse(s);
     if parsed.empty {
-        return Answer {
-            context: c,
-            path: PathBuf::from(s),
-            outcome: Outcome::Empty,
-        };
+        return with_path(c, Outcome::Empty, s, path);
     }
     let start = parsed.query;
     let end = parsed.fragment;
@@ -383,13 +404,9 @@ fn text_target(url: &[u8], form: Form, pattern: &[u8], s: &[u8], at: usize, c: C
     );
     let t = path::first(&parsed.path.bytes, parsed.path.len);
     if text::starts_with(t, b"./") {
-        return normalized_target(url, form, pattern, t, context);
+        return normalized_target(url, form, pattern, t, context, path);
     }
-    Answer {
-        context,
-        path: parsed.path,
-        outcome: Outcome::InvalidTarget,
-    }
+    with_path(context, Outcome::InvalidTarget, t, path)
 }
 
 // The kinds of values.
@@ -475,12 +492,21 @@ fn string_target(
     pattern: &[u8],
     c: Context,
     work: &mut [u8],
+    path: &mut [u8],
 ) -> Answer
-    requires { ⌜ 1024 ≤ length (now work) ⌝ }
-    ensures { λ r. ⌜ ((q : Request) (d : ℕ) (s : List ℕ) → Asked q (now (url .entry)) form (now (pattern .entry)) → Stands (now (m .entry)) d at (str s) → answerOf (now (m .entry)) q r ≡ stringTarget q (parseSpecifier s) s (contextOf (now (m .entry)) c)) ⌝ }
+    requires { ⌜ (1024 ≤ length (now work)) × (2048 ≤ length (now path)) ⌝ }
+    ensures { λ r. ⌜ ((q : Request) (d : ℕ) (s : List ℕ) → Asked q (now (url .entry)) form (now (pattern .entry)) → Stands (now (m .entry)) d at (str s) → answerOf (now (m .entry)) q (now (path .exit)) r ≡ stringTarget q (parseSpecifier s) s (contextOf (now (m .entry)) c)) ⌝ }
 {
     let t = package_json::read_text(m, at, work);
-    text_target(url, form, pattern, package_json::text_at(m, work, t), at, c)
+    text_target(
+        url,
+        form,
+        pattern,
+        package_json::text_at(m, work, t),
+        at,
+        c,
+        path,
+    )
 }
 
 // Whether the condition holds that the member at a place names.
@@ -569,14 +595,15 @@ fn package_target_resolve(
     pattern: &[u8],
     c: Context,
     work: &mut [u8],
+    path: &mut [u8],
 ) -> Answer
-    requires { ⌜ 1024 ≤ length (now work) ⌝ }
-    ensures { λ r. ⌜ Resolves (now (m .entry)) at depth (now (settings .entry)) (now (url .entry)) form (now (pattern .entry)) c r ⌝ }
+    requires { ⌜ (1024 ≤ length (now work)) × (2048 ≤ length (now path)) ⌝ }
+    ensures { λ r. ⌜ Resolves (now (m .entry)) at depth (now (settings .entry)) (now (url .entry)) form (now (pattern .entry)) c (now (path .exit)) r ⌝ }
 {
     let kind = kind_at(m, at);
     match kind {
         Kind::Scalar => without_path(c, Outcome::Nothing),
-        Kind::String => string_target(m, at, url, form, pattern, c, work),
+        Kind::String => string_target(m, at, url, form, pattern, c, work, path),
         Kind::Array => {
             if depth == 0 {
                 return without_path(c, Outcome::Nothing);
@@ -603,6 +630,7 @@ fn package_target_resolve(
                             pattern,
                             context,
                             work,
+                            path,
                         );
                         let outcome = r.outcome;
                         let passed = is_passed(outcome, next);
@@ -642,6 +670,7 @@ fn package_target_resolve(
                                 pattern,
                                 context,
                                 work,
+                                path,
                             );
                             let outcome = r.outcome;
                             let passed = is_nothing(outcome);
@@ -871,9 +900,10 @@ fn pattern_resolve(
     match_key: &[u8],
     c: Context,
     work: &mut [u8],
+    path: &mut [u8],
 ) -> Resolved
-    requires { ⌜ 1024 ≤ length (now work) ⌝ }
-    ensures { λ r. ⌜ ((ms : Members) → Stands (now (m .entry)) 15 at (obj ms) → resolvedOf (now (m .entry)) (now (url .entry)) (now («match_key» .entry)) r ≡ bestResolve (now (url .entry)) (textsOf (now (settings .entry)) 0) (now («match_key» .entry)) (bestOf (now («match_key» .entry)) none (entries ms)) (contextOf (now (m .entry)) c)) ⌝ }
+    requires { ⌜ (1024 ≤ length (now work)) × (2048 ≤ length (now path)) ⌝ }
+    ensures { λ r. ⌜ ((ms : Members) → Stands (now (m .entry)) 15 at (obj ms) → resolvedOf (now (m .entry)) (now (url .entry)) (now («match_key» .entry)) (now (path .exit)) r ≡ bestResolve (now (url .entry)) (textsOf (now (settings .entry)) 0) (now («match_key» .entry)) (bestOf (now («match_key» .entry)) none (entries ms)) (contextOf (now (m .entry)) c)) ⌝ }
 {
     let best = best_key(m, at, match_key, work);
     let found = best.found;
@@ -896,6 +926,7 @@ fn pattern_resolve(
         text::part(match_key, start, len),
         c,
         work,
+        path,
     );
     Resolved {
         answer,
@@ -912,16 +943,17 @@ fn package_imports_exports_resolve(
     match_key: &[u8],
     c: Context,
     work: &mut [u8],
+    path: &mut [u8],
 ) -> Resolved
-    requires { ⌜ 1024 ≤ length (now work) ⌝ }
-    ensures { λ r. ⌜ ((ms : Members) → Stands (now (m .entry)) 15 at (obj ms) → resolvedOf (now (m .entry)) (now (url .entry)) (now («match_key» .entry)) r ≡ PACKAGE-IMPORTS-EXPORTS-RESOLVE (now (url .entry)) (textsOf (now (settings .entry)) 0) (now («match_key» .entry)) (entries ms) (contextOf (now (m .entry)) c)) ⌝ }
+    requires { ⌜ (1024 ≤ length (now work)) × (2048 ≤ length (now path)) ⌝ }
+    ensures { λ r. ⌜ ((ms : Members) → Stands (now (m .entry)) 15 at (obj ms) → resolvedOf (now (m .entry)) (now (url .entry)) (now («match_key» .entry)) (now (path .exit)) r ≡ PACKAGE-IMPORTS-EXPORTS-RESOLVE (now (url .entry)) (textsOf (now (settings .entry)) 0) (now («match_key» .entry)) (entries ms) (contextOf (now (m .entry)) c)) ⌝ }
 {
     if text::ends_with(match_key, b"/") {
         return unresolved(c, Outcome::Nothing);
     }
     let literal = literal_at(m, at, match_key);
     match literal {
-        Cursor::Nothing => pattern_resolve(m, at, settings, url, match_key, c, work),
+        Cursor::Nothing => pattern_resolve(m, at, settings, url, match_key, c, work, path),
         Cursor::At(i) => {
             let answer = package_target_resolve(
                 m,
@@ -933,6 +965,7 @@ fn package_imports_exports_resolve(
                 match_key,
                 c,
                 work,
+                path,
             );
             Resolved {
                 answer,
@@ -952,11 +985,12 @@ fn keys_resolve(
     subpath: &[u8],
     c: Context,
     work: &mut [u8],
+    path: &mut [u8],
 ) -> Resolved
-    requires { ⌜ 1024 ≤ length (now work) ⌝ }
-    ensures { λ r. ⌜ ((ms : Members) → Stands (now (m .entry)) 15 at (obj ms) → resolvedOf (now (m .entry)) (now (url .entry)) (now (subpath .entry)) r ≡ keysOrNot (now (url .entry)) (textsOf (now (settings .entry)) 0) (now (subpath .entry)) (obj ms) (contextOf (now (m .entry)) c)) ⌝ }
+    requires { ⌜ (1024 ≤ length (now work)) × (2048 ≤ length (now path)) ⌝ }
+    ensures { λ r. ⌜ ((ms : Members) → Stands (now (m .entry)) 15 at (obj ms) → resolvedOf (now (m .entry)) (now (url .entry)) (now (subpath .entry)) (now (path .exit)) r ≡ keysOrNot (now (url .entry)) (textsOf (now (settings .entry)) 0) (now (subpath .entry)) (obj ms) (contextOf (now (m .entry)) c)) ⌝ }
 {
-    let r = package_imports_exports_resolve(m, at, settings, url, subpath, c, work);
+    let r = package_imports_exports_resolve(m, at, settings, url, subpath, c, work, path);
     let a = r.answer;
     let outcome = a.outcome;
     let nothing = is_nothing(outcome);
@@ -975,9 +1009,10 @@ fn main_resolve(
     settings: &[u8],
     url: &[u8],
     work: &mut [u8],
+    path: &mut [u8],
 ) -> Answer
-    requires { ⌜ 1024 ≤ length (now work) ⌝ }
-    ensures { λ r. ⌜ ((ms : Members) → Stands (now (m .entry)) 15 at (obj ms) → subpaths ≡ anyKey isSubpathKey (entries ms) → answerOf (now (m .entry)) (dotRequest (now (url .entry)) (textsOf (now (settings .entry)) 0)) r ≡ mainResolve (now (url .entry)) (textsOf (now (settings .entry)) 0) (mainExport (obj ms)) fresh) ⌝ }
+    requires { ⌜ (1024 ≤ length (now work)) × (2048 ≤ length (now path)) ⌝ }
+    ensures { λ r. ⌜ ((ms : Members) → Stands (now (m .entry)) 15 at (obj ms) → subpaths ≡ anyKey isSubpathKey (entries ms) → answerOf (now (m .entry)) (dotRequest (now (url .entry)) (textsOf (now (settings .entry)) 0)) (now (path .exit)) r ≡ mainResolve (now (url .entry)) (textsOf (now (settings .entry)) 0) (mainExport (obj ms)) fresh) ⌝ }
 {
     let dot = get(m, at, b".");
     match dot {
@@ -991,6 +1026,7 @@ fn main_resolve(
             url,
             Context::new(),
             work,
+            path,
         ),
         Cursor::Nothing => {
             if subpaths {
@@ -1006,6 +1042,7 @@ fn main_resolve(
                 url,
                 Context::new(),
                 work,
+                path,
             )
         }
     }
@@ -1027,9 +1064,10 @@ fn object_resolve(
     url: &[u8],
     subpath: &[u8],
     work: &mut [u8],
+    path: &mut [u8],
 ) -> Resolved
-    requires { ⌜ 1024 ≤ length (now work) ⌝ }
-    ensures { λ r. ⌜ ((ms : Members) → Stands (now (m .entry)) 15 at (obj ms) → resolvedOf (now (m .entry)) (now (url .entry)) (now (subpath .entry)) r ≡ PACKAGE-EXPORTS-RESOLVE (now (url .entry)) (textsOf (now (settings .entry)) 0) (now (subpath .entry)) (obj ms) fresh) ⌝ }
+    requires { ⌜ (1024 ≤ length (now work)) × (2048 ≤ length (now path)) ⌝ }
+    ensures { λ r. ⌜ ((ms : Members) → Stands (now (m .entry)) 15 at (obj ms) → resolvedOf (now (m .entry)) (now (url .entry)) (now (subpath .entry)) (now (path .exit)) r ≡ PACKAGE-EXPORTS-RESOLVE (now (url .entry)) (textsOf (now (settings .entry)) 0) (now (subpath .entry)) (obj ms) fresh) ⌝ }
 {
     let keys = keys_of(m, at, work);
     let mixed = is_mixed(keys);
@@ -1037,10 +1075,10 @@ fn object_resolve(
         return unresolved(Context::new(), Outcome::ConfigMixed);
     }
     if !text::equal(subpath, b".") {
-        return keys_resolve(m, at, settings, url, subpath, Context::new(), work);
+        return keys_resolve(m, at, settings, url, subpath, Context::new(), work, path);
     }
     let subpaths = keys.subpath;
-    let answer = main_resolve(m, at, subpaths, settings, url, work);
+    let answer = main_resolve(m, at, subpaths, settings, url, work, path);
     let outcome = answer.outcome;
     let nothing = is_nothing(outcome);
     if !nothing {
@@ -1051,7 +1089,7 @@ fn object_resolve(
         };
     }
     let context = answer.context;
-    keys_resolve(m, at, settings, url, subpath, context, work)
+    keys_resolve(m, at, settings, url, subpath, context, work, path)
 }
 
 // A string or an array: the main export, and no other.
@@ -1062,9 +1100,10 @@ fn whole_resolve(
     url: &[u8],
     subpath: &[u8],
     work: &mut [u8],
+    path: &mut [u8],
 ) -> Resolved
-    requires { ⌜ 1024 ≤ length (now work) ⌝ }
-    ensures { λ r. ⌜ ((j : Json) → IsWhole j → Stands (now (m .entry)) 15 at j → resolvedOf (now (m .entry)) (now (url .entry)) (now (subpath .entry)) r ≡ PACKAGE-EXPORTS-RESOLVE (now (url .entry)) (textsOf (now (settings .entry)) 0) (now (subpath .entry)) j fresh) ⌝ }
+    requires { ⌜ (1024 ≤ length (now work)) × (2048 ≤ length (now path)) ⌝ }
+    ensures { λ r. ⌜ ((j : Json) → IsWhole j → Stands (now (m .entry)) 15 at j → resolvedOf (now (m .entry)) (now (url .entry)) (now (subpath .entry)) (now (path .exit)) r ≡ PACKAGE-EXPORTS-RESOLVE (now (url .entry)) (textsOf (now (settings .entry)) 0) (now (subpath .entry)) j fresh) ⌝ }
 {
     if !text::equal(subpath, b".") {
         return unresolved(Context::new(), Outcome::NotExported);
@@ -1079,6 +1118,7 @@ fn whole_resolve(
         url,
         Context::new(),
         work,
+        path,
     );
     let outcome = answer.outcome;
     let nothing = is_nothing(outcome);
@@ -1093,8 +1133,9 @@ fn whole_resolve(
     unresolved(context, Outcome::NotExported)
 }
 
-// The exports field whose value stands at a place of the manifest m, for the package directory `url` and a subpath. The work buffer ends with any
-// bytes and its old length. Where no value stands there, or the buffer has fewer than 1,024 bytes, the answer is free.
+// The exports field whose value stands at a place of the manifest m, for the package directory `url` and a subpath. The answer's path stands at the
+// start of the path buffer; both lent buffers end with any other bytes and their old lengths. Where no value stands there, work has fewer than 1,024
+// bytes or path fewer than 2,048, the answer is free.
 pub fn package_exports_resolve(
     m: &[u8],
     at: usize,
@@ -1102,18 +1143,23 @@ pub fn package_exports_resolve(
     url: &[u8],
     subpath: &[u8],
     work: &mut [u8],
+    path: &mut [u8],
 ) -> Resolved
-    ensures { λ r. ⌜ ((j : Json) → 1024 ≤ length (now (work .entry)) → values.Stands 15 (drop at (now (m .entry))) j → resolvedOf (now (m .entry)) (now (url .entry)) (now (subpath .entry)) r ≡ PACKAGE-EXPORTS-RESOLVE (now (url .entry)) (settingsOf (now (settings .entry)) .conditions) (now (subpath .entry)) j fresh) ⌝ }
+    ensures { λ r. ⌜ ((j : Json) → 1024 ≤ length (now (work .entry)) → 2048 ≤ length (now (path .entry)) → values.Stands 15 (drop at (now (m .entry))) j → resolvedOf (now (m .entry)) (now (url .entry)) (now (subpath .entry)) (now (path .exit)) r ≡ PACKAGE-EXPORTS-RESOLVE (now (url .entry)) (settingsOf (now (settings .entry)) .conditions) (now (subpath .entry)) j fresh) ⌝ }
     ensures { λ r. ⌜ length (now (work .exit)) ≡ length (now (work .entry)) ⌝ }
+    ensures { λ r. ⌜ length (now (path .exit)) ≡ length (now (path .entry)) ⌝ }
 {
     if work.len() < 1024 {
+        return unresolved(Context::new(), Outcome::NotExported);
+    }
+    if path.len() < 2048 {
         return unresolved(Context::new(), Outcome::NotExported);
     }
     let kind = kind_at(m, at);
     match kind {
         Kind::Scalar => unresolved(Context::new(), Outcome::NotExported),
-        Kind::String => whole_resolve(m, at, settings, url, subpath, work),
-        Kind::Array => whole_resolve(m, at, settings, url, subpath, work),
-        Kind::Object => object_resolve(m, at, settings, url, subpath, work),
+        Kind::String => whole_resolve(m, at, settings, url, subpath, work, path),
+        Kind::Array => whole_resolve(m, at, settings, url, subpath, work, path),
+        Kind::Object => object_resolve(m, at, settings, url, subpath, work, path),
     }
 }

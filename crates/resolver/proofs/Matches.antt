@@ -7,7 +7,6 @@ use Prim.Native.Nat.{ℕ, _+_, _-_, _≤_, _<_}
 use native.Mathlib.Omega.{arith}
 use denote.Enum.Declared.{tagOf, declared}
 use lib.ListN.{length, getD, drop, take}
-use lib.Seq.{take-all, take-append-le}
 use Rattle.definition.specs.Text.{Text, text, if_then_else_, startsWith, overwrite}
 use Rattle.definition.specs.Path.{dirs}
 use Rattle.definition.specs.Specifier.{dotSubpath, stripPackageName}
@@ -28,7 +27,7 @@ use Rattle.package_json.specs.Cursors.{placed}
 use Rattle.exports.specs.Chosen as chosen
 use Rattle.exports.specs.declared.Part.{Part}
 use Rattle.exports.specs.Contexts.{partText}
-use Rattle.exports.proofs.Contexts.{part-short}
+use Rattle.exports.proofs.Contexts.{first-text, part-short}
 use Rattle.files.specs.declared.Ending.{Ending}
 use Rattle.files.specs.declared.Mark.{Mark}
 use Rattle.files.specs.declared.Way.{Way}
@@ -47,13 +46,7 @@ pub done-failed : {A : Type 0} {L : Listing _} {f : Failure} {n : ℕ} {a b c : 
 unfolding given
 done-failed h z ns list m = done-finish h _ _ _ (z .ending) (rw (z .texts))
 
--- A TEXT AT THE START OF A BUFFER that has room for it, and a part of a manifest's string there
-first-text : (t d : Text) → length t ≤ length d → take (length t) (overwrite 0 t d) ≡ t
-unfolding overwrite
-first-text t d h =
-    let z : length d - 0 ≡ length d = omega arith in
-    rw (z, take-all (length d) t h, take-append-le (length t) t (drop (0 + length t) d) (omega arith)) (take-all (length t) t (omega arith))
-
+-- A PART OF A MANIFEST'S STRING, at the start of a buffer that has room for it
 pub part-first : (m : Text) (p : Part) (d d′ x : Text) (n : ℕ) → 1024 ≤ length d → n ≡ length (partText m p) → d′ ≡ overwrite 0 (partText m p) d → x ≡ take n d′ → x ≡ partText m p
 part-first m p d d′ x n l e f g =
     g ∙ ap (λ k. take k d′) e ∙ ap (take (length (partText m p))) f ∙ first-text (partText m p) d (omega (arith, part-short m p))
