@@ -14,7 +14,7 @@ use Rattle.resolver.proofs.walk.Lts as lts
 use Rattle.files.proofs.finish.Reads as finish-reads
 use Rattle.resolver.proofs.load_climbing.Reads as load-climbing-reads
 use Rattle.resolver.proofs.load_node_modules.Reads as load-node-modules-reads
-use Rattle.resolver.proofs.load_package_self.Reads as load-package-self-reads
+use Rattle.package_exports.proofs.load_package_self.Reads as load-package-self-reads
 
 pub walk-spec : {M : Type 1} → statement M
 unfolding lookup _>>_ notFound failureNumber failureTexts
