@@ -1,5 +1,5 @@
 -- With enough work memory a function does what the definition's routine does. Assumes nothing.
-use mathlib.Core.Path.{_≡_, refl}
+use mathlib.Core.Path.{_≡_}
 use mathlib.Core.List.{[]}
 use mathlib.Core.Option.{Option, none, some}
 use Prim.Native.Nat.{ℕ, _≤_, _<_}
@@ -22,8 +22,8 @@ module _ {M A : Type 0} {L : Listing M} {t : Ask End M A} {s : Tape} where
   pub is-done : (n : Option ℕ) {s′ : Tape} {r : Step Ending A} → n ≡ none → Done L t s s′ r → DoneUnless L t s n s′ r
   is-done n e d = rw e (done d)
 
-  pub is-refused : (n : Option ℕ) (k : ℕ) {x : Ending} → n ≡ some k → x ≡ numbers k [] [] [] → DoneUnless L t s n s (stop x)
-  is-refused n k e z = rw (e, z) (refused k)
+  pub is-refused : (n : Option ℕ) (k : ℕ) → n ≡ some k → DoneUnless L t s n s (stop (numbers k [] [] []))
+  is-refused n k e = rw e (refused k)
 
 -- enough work memory, or not
 pub enough : (w : ℕ) → 1024 ≤ w → roomIn w ≡ none

@@ -213,10 +213,7 @@ fn load_main<'a>(
     let p = main_path(path, main);
     let n = p.len;
     if n > 2048 {
-        return Out {
-            way: Way::Stopped(files::refuse(42)),
-            mark: m,
-        };
+        return files::refused(42, m);
     }
     let q = path::first(&p.bytes, n);
     let out = files::load_as_file(l, s, q, query, fragment, result, nums, text, m);
@@ -251,10 +248,7 @@ fn load_main_field<'a>(
         let main = package_json::text_at(manifest, work, t);
         return load_main(l, s, main, path, query, fragment, result, nums, text, m);
     };
-    Out {
-        way: Way::Next,
-        mark: m,
-    }
+    files::next(m)
 }
 
 // LOAD_AS_DIRECTORY(X), 1.a to e, for each main field of the settings.
@@ -301,10 +295,7 @@ fn load_main_fields<'a>(
         mark = out.mark;
         i += 1;
     }
-    Out {
-        way: Way::Next,
-        mark,
-    }
+    files::next(mark)
 }
 
 // LOAD_AS_DIRECTORY(X) with a manifest: 1.a to e, and then LOAD_INDEX(X).
@@ -362,10 +353,7 @@ pub fn load_as_directory<'a>(
     ensures { λ r. ⌜ DoneUnless (seenBy (settingsOf (now (s .entry))) (now (l .entry))) (LOAD-AS-DIRECTORY (settingsOf (now (s .entry))) (place (now (path .entry)) (now (query .entry)) (now (fragment .entry)))) (tapeOf (now (result .entry)) (now (nums .entry)) (now (text .entry)) m) (roomIn (length (now (work .entry)))) (tapeOf (now (result .exit)) (now (nums .exit)) (now (text .exit)) (r .mark)) (stepOf (r .way)) ⌝ }
 {
     if work.len() < 1024 {
-        return Out {
-            way: Way::Stopped(files::refuse(25)),
-            mark: m,
-        };
+        return files::refused(25, m);
     }
     let found = own(l, path, result, nums, text, m);
     let mark = found.mark;
@@ -416,18 +404,12 @@ pub fn load_if_directory<'a>(
     ensures { λ r. ⌜ DoneUnless (seenBy (settingsOf (now (s .entry))) (now (l .entry))) (ifDirectory (settingsOf (now (s .entry))) (place (now (path .entry)) (now (query .entry)) (now (fragment .entry)))) (tapeOf (now (result .entry)) (now (nums .entry)) (now (text .entry)) m) (roomIn (length (now (work .entry)))) (tapeOf (now (result .exit)) (now (nums .exit)) (now (text .exit)) (r .mark)) (stepOf (r .way)) ⌝ }
 {
     if work.len() < 1024 {
-        return Out {
-            way: Way::Stopped(files::refuse(25)),
-            mark: m,
-        };
+        return files::refused(25, m);
     }
     let asked = files::consult(l, path, nums, text, m);
     let mark = asked.mark;
     if asked.state != 1 {
-        return Out {
-            way: Way::Next,
-            mark,
-        };
+        return files::next(mark);
     }
     load_as_directory(l, s, path, query, fragment, result, nums, text, mark, work)
 }

@@ -39,7 +39,7 @@ use Rattle.package_exports.specs.Routines.{foundOf, matchExports}
 use Rattle.files.proofs.Way as way
 use Rattle.files.proofs.Steps.{Ends, done-finish}
 use Rattle.directory.proofs.Manifests.{perhaps-none, perhaps-some}
-use Rattle.files.proofs.Ways.{ended, way-onward}
+use Rattle.files.proofs.Ways.{bind-bind, ended, way-onward}
 
 -- THE TEXTS OF AN ERROR. The text of a key, which is read once more
 pub key-read : (s w : Text) → 1024 ≤ length w → orEmpty (textAt s w .text) ≡ readText (quoted s)
@@ -54,15 +54,7 @@ pub done-failed : {A : Type 0} {L : Listing _} {f : Failure} {n : ℕ} {a b c : 
 unfolding given
 done-failed h z ns list m = done-finish h _ _ _ (z .ending) (rw (z .texts))
 
--- RESOLVE_ESM_MATCH. One routine after two others
-bind-bind : {E M A B C : Type 0} (m : Ask E M A) (f : A → Ask E M B) (g : B → Ask E M C) → (m >>= f) >>= g ≡ m >>= λ x. f x >>= g
-unfolding _>>=_
-bind-bind (ret a) f g = refl
-bind-bind (end e) f g = refl
-bind-bind (ask p k) f g = ap (ask p) (fun-ext (λ s. bind-bind (k s) f g))
-bind-bind (read p k) f g = ap (read p) (fun-ext (λ o. bind-bind (k o) f g))
-
--- a file ended the lookup
+-- RESOLVE_ESM_MATCH: a file ended the lookup
 module _ (G : Settings) (spec : Text) (w : Place) {L : Listing Sees} {s s₁ : Tape} (v : Way) (d : Done L (LOAD-AS-FILE G w) s s₁ (stepOf v)) where
   pub match-file : tagOf (declared way.enum) v ≡ 1 → Done L (never (RESOLVE-ESM-MATCH G spec w)) s s₁ (stepOf v)
   unfolding never RESOLVE-ESM-MATCH _>>_

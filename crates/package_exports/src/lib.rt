@@ -74,7 +74,7 @@ fn resolve_esm_match<'a>(
     };
     let mark = out.mark;
     Out {
-        way: Way::Stopped(files::finish(1, spec, b"", b"", result)),
+        way: Way::Stopped(files::not_found(spec, result)),
         mark,
     }
 }
@@ -270,10 +270,7 @@ fn by_exports(
 {
     let field = exports_field(manifest, root, s);
     let Cursor::At(at) = field else {
-        return Out {
-            way: Way::Next,
-            mark: m,
-        };
+        return files::next(m);
     };
     let mut dotted = [0u8; 2049];
     let n = specifier::dot_subpath(sub, &mut dotted);
@@ -310,16 +307,10 @@ pub fn load_package_exports(
     ensures { λ r. ⌜ DoneUnless (seenBy (settingsOf (now (s .entry))) (now (l .entry))) (LOAD-PACKAGE-EXPORTS (settingsOf (now (s .entry))) (now (spec .entry)) (now (sub .entry)) (now (dir .entry))) (tapeOf (now (result .entry)) (now (nums .entry)) (now (text .entry)) m) (roomFor (length (now (work .entry))) (length (now (sub .entry)))) (tapeOf (now (result .exit)) (now (nums .exit)) (now (text .exit)) (r .mark)) (stepOf (r .way)) ⌝ }
 {
     if work.len() < 1024 {
-        return Out {
-            way: Way::Stopped(files::refuse(25)),
-            mark: m,
-        };
+        return files::refused(25, m);
     }
     if sub.len() > 2048 {
-        return Out {
-            way: Way::Stopped(files::refuse(22)),
-            mark: m,
-        };
+        return files::refused(22, m);
     }
     let found = directory::own(l, dir, result, nums, text, m);
     let mark = found.mark;
@@ -335,10 +326,7 @@ pub fn load_package_exports(
         root,
     } = package
     else {
-        return Out {
-            way: Way::Next,
-            mark,
-        };
+        return files::next(mark);
     };
     let manifest = listing::contents(l, start, end);
     by_exports(
@@ -379,10 +367,7 @@ fn in_scope(
         let name = package_json::text_at(manifest, work, t);
         let stripped = specifier::strip_package_name(spec, name);
         let Stripped::At(n) = stripped else {
-            return Out {
-                way: Way::Next,
-                mark: m,
-            };
+            return files::next(m);
         };
         let sub = specifier::tail(spec, n);
         return by_exports(
@@ -400,10 +385,7 @@ fn in_scope(
             work,
         );
     };
-    Out {
-        way: Way::Next,
-        mark: m,
-    }
+    files::next(m)
 }
 
 // LOAD_PACKAGE_SELF(X, DIR): without a scope it comes back. It refuses as LOAD_PACKAGE_EXPORTS does, with 22 for a specifier that is over
@@ -422,16 +404,10 @@ pub fn load_package_self(
     ensures { λ r. ⌜ DoneUnless (seenBy (settingsOf (now (s .entry))) (now (l .entry))) (LOAD-PACKAGE-SELF (settingsOf (now (s .entry))) (now (start .entry)) (now (spec .entry))) (tapeOf (now (result .entry)) (now (nums .entry)) (now (text .entry)) m) (roomFor (length (now (work .entry))) (length (now (spec .entry)))) (tapeOf (now (result .exit)) (now (nums .exit)) (now (text .exit)) (r .mark)) (stepOf (r .way)) ⌝ }
 {
     if work.len() < 1024 {
-        return Out {
-            way: Way::Stopped(files::refuse(25)),
-            mark: m,
-        };
+        return files::refused(25, m);
     }
     if spec.len() > 2048 {
-        return Out {
-            way: Way::Stopped(files::refuse(22)),
-            mark: m,
-        };
+        return files::refused(22, m);
     }
     let found = directory::scope(l, start, result, nums, text, m);
     let mark = found.mark;
@@ -447,10 +423,7 @@ pub fn load_package_self(
         root,
     } = package
     else {
-        return Out {
-            way: Way::Next,
-            mark,
-        };
+        return files::next(mark);
     };
     let manifest = listing::contents(l, from, end);
     let dir = path::first(start, n);

@@ -16,7 +16,7 @@ ghost use Rattle.definition.specs.Called.{seenBy};
 ghost use Rattle.definition.specs.Walk.{perhaps, goOn, asFileOrDirectory, inModules, inDirectory, LOAD-NODE-MODULES, lookup};
 ghost use Rattle.files.specs.Tape.{Done};
 ghost use Rattle.files.specs.Meaning.{tapeOf, stepOf, numbers};
-ghost use Rattle.resolver.specs.Routines.{goingOf, directoryOrFile, Refused};
+ghost use Rattle.resolver.specs.Routines.{goingOf, fileFirst, directoryOrFile, inPackage, loadPackage, Refused};
 
 // Whether a routine came back, and what with.
 pub struct Went {
@@ -117,14 +117,15 @@ fn load_directory_or_file(
     requires { ⌜ 1024 ≤ length (now work) ⌝ }
     ensures { λ r. ⌜ Done (seenBy (settingsOf (now (s .entry))) (now (l .entry))) (directoryOrFile (settingsOf (now (s .entry))) (now (path .entry))) (tapeOf (now (result .entry)) (now (nums .entry)) (now (text .entry)) m) (tapeOf (now (result .exit)) (now (nums .exit)) (now (text .exit)) (r .mark)) (stepOf (r .way)) ⌝ }
 {
+    let none: &[u8] = b"";
     let asked = files::consult(l, path, nums, text, m);
     if asked.state == 1 {
         return directory::load_as_directory(
             l,
             s,
             path,
-            b"",
-            b"",
+            none,
+            none,
             result,
             nums,
             text,
@@ -132,7 +133,7 @@ fn load_directory_or_file(
             work,
         );
     }
-    files::load_as_file(l, s, path, b"", b"", result, nums, text, asked.mark)
+    files::load_as_file(l, s, path, none, none, result, nums, text, asked.mark)
 }
 
 // LOAD_NODE_MODULES(X, START), 2.b: a file at once only for a name with a subpath that does not end in "/".
@@ -143,6 +144,26 @@ fn file_first(spec: &[u8], name: &[u8]) -> bool
         return false;
     }
     !text::ends_with(spec, b"/")
+}
+
+fn load_file_first(
+    l: &[u8],
+    s: &[u8],
+    spec: &[u8],
+    name: &[u8],
+    path: &[u8],
+    result: &mut [u8],
+    nums: &mut [u32],
+    text: &mut [u8],
+    m: Mark,
+) -> Out
+    ensures { λ r. ⌜ Done (seenBy (settingsOf (now (s .entry))) (now (l .entry))) (fileFirst (settingsOf (now (s .entry))) (now (spec .entry)) (now (name .entry)) (now (path .entry))) (tapeOf (now (result .entry)) (now (nums .entry)) (now (text .entry)) m) (tapeOf (now (result .exit)) (now (nums .exit)) (now (text .exit)) (r .mark)) (stepOf (r .way)) ⌝ }
+{
+    if !file_first(spec, name) {
+        return files::next(m);
+    }
+    let none: &[u8] = b"";
+    files::load_as_file(l, s, path, none, none, result, nums, text, m)
 }
 
 fn load_as_file_or_directory(
@@ -163,16 +184,10 @@ fn load_as_file_or_directory(
     let p = path::normalize_with(modules, spec);
     let n = p.len;
     if n > 2048 {
-        return Out {
-            way: Way::Stopped(files::refuse(42)),
-            mark: m,
-        };
+        return files::refused(42, m);
     }
     let path = path::first(&p.bytes, n);
-    if !file_first(spec, name) {
-        return load_directory_or_file(l, s, path, result, nums, text, m, work);
-    }
-    let out = files::load_as_file(l, s, path, b"", b"", result, nums, text, m);
+    let out = load_file_first(l, s, spec, name, path, result, nums, text, m);
     let way = out.way;
     let Way::Next = way else {
         return out;
@@ -180,14 +195,15 @@ fn load_as_file_or_directory(
     load_directory_or_file(l, s, path, result, nums, text, out.mark, work)
 }
 
-// LOAD_NODE_MODULES(X, START), 2., in one node_modules directory.
-fn in_modules(
+// LOAD_NODE_MODULES(X, START), 2., at DIR/NAME in one node_modules directory.
+fn in_package(
     l: &[u8],
     s: &[u8],
     spec: &[u8],
     name: &[u8],
     sub: &[u8],
     modules: &[u8],
+    dir: &[u8],
     result: &mut [u8],
     nums: &mut [u32],
     text: &mut [u8],
@@ -195,17 +211,8 @@ fn in_modules(
     work: &mut [u8],
 ) -> Out
     requires { ⌜ (1024 ≤ length (now work)) × (length (now sub) ≤ 2048) ⌝ }
-    ensures { λ r. ⌜ Done (seenBy (settingsOf (now (s .entry))) (now (l .entry))) (inModules (settingsOf (now (s .entry))) (now (spec .entry)) (now (name .entry)) (now (sub .entry)) (now (modules .entry))) (tapeOf (now (result .entry)) (now (nums .entry)) (now (text .entry)) m) (tapeOf (now (result .exit)) (now (nums .exit)) (now (text .exit)) (r .mark)) (stepOf (r .way)) ⌝ }
+    ensures { λ r. ⌜ Done (seenBy (settingsOf (now (s .entry))) (now (l .entry))) (inPackage (settingsOf (now (s .entry))) (now (spec .entry)) (now (name .entry)) (now (sub .entry)) (now (modules .entry)) (now (dir .entry))) (tapeOf (now (result .entry)) (now (nums .entry)) (now (text .entry)) m) (tapeOf (now (result .exit)) (now (nums .exit)) (now (text .exit)) (r .mark)) (stepOf (r .way)) ⌝ }
 {
-    let p = path::normalize_with(modules, name);
-    let n = p.len;
-    if n > 2048 {
-        return Out {
-            way: Way::Stopped(files::refuse(42)),
-            mark: m,
-        };
-    }
-    let dir = path::first(&p.bytes, n);
     let asked = files::consult(l, dir, nums, text, m);
     let is_dir = asked.state == 1;
     let went = go_on(
@@ -228,12 +235,47 @@ fn in_modules(
         return Out { way, mark };
     };
     if !went.more {
-        return Out {
-            way: Way::Next,
-            mark,
-        };
+        return files::next(mark);
     }
     load_as_file_or_directory(l, s, spec, name, modules, result, nums, text, mark, work)
+}
+
+// LOAD_NODE_MODULES(X, START), 2., in one node_modules directory.
+fn in_modules(
+    l: &[u8],
+    s: &[u8],
+    spec: &[u8],
+    name: &[u8],
+    sub: &[u8],
+    modules: &[u8],
+    result: &mut [u8],
+    nums: &mut [u32],
+    text: &mut [u8],
+    m: Mark,
+    work: &mut [u8],
+) -> Out
+    requires { ⌜ (1024 ≤ length (now work)) × (length (now sub) ≤ 2048) ⌝ }
+    ensures { λ r. ⌜ Done (seenBy (settingsOf (now (s .entry))) (now (l .entry))) (inModules (settingsOf (now (s .entry))) (now (spec .entry)) (now (name .entry)) (now (sub .entry)) (now (modules .entry))) (tapeOf (now (result .entry)) (now (nums .entry)) (now (text .entry)) m) (tapeOf (now (result .exit)) (now (nums .exit)) (now (text .exit)) (r .mark)) (stepOf (r .way)) ⌝ }
+{
+    let p = path::normalize_with(modules, name);
+    let n = p.len;
+    if n > 2048 {
+        return files::refused(42, m);
+    }
+    in_package(
+        l,
+        s,
+        spec,
+        name,
+        sub,
+        modules,
+        path::first(&p.bytes, n),
+        result,
+        nums,
+        text,
+        m,
+        work,
+    )
 }
 
 // The node_modules of one directory, if both are directories.
@@ -256,27 +298,18 @@ fn in_directory(
     let asked = files::consult(l, dir, nums, text, m);
     let mark = asked.mark;
     if asked.state != 1 {
-        return Out {
-            way: Way::Next,
-            mark,
-        };
+        return files::next(mark);
     }
     let p = path::normalize_with(dir, b"node_modules");
     let n = p.len;
     if n > 2048 {
-        return Out {
-            way: Way::Stopped(files::refuse(42)),
-            mark,
-        };
+        return files::refused(42, mark);
     }
     let modules = path::first(&p.bytes, n);
     let asked = files::consult(l, modules, nums, text, mark);
     let mark = asked.mark;
     if asked.state != 1 {
-        return Out {
-            way: Way::Next,
-            mark,
-        };
+        return files::next(mark);
     }
     in_modules(
         l,
@@ -314,10 +347,7 @@ fn load_node_modules(
     let mut names: usize = 0;
     let out = 'climb: loop {
         if names > 0 {
-            break 'climb Out {
-                way: Way::Next,
-                mark,
-            };
+            break 'climb files::next(mark);
         }
         let mut n = start.len();
         let mut left = files::depth(start) + 1;
@@ -353,21 +383,43 @@ fn load_climbing(
     ensures { λ r. ⌜ Done (seenBy (settingsOf (now (s .entry))) (now (l .entry))) (perhaps (climbing (now (spec .entry))) (LOAD-NODE-MODULES (settingsOf (now (s .entry))) (now (start .entry)))) (tapeOf (now (result .entry)) (now (nums .entry)) (now (text .entry)) m) (tapeOf (now (result .exit)) (now (nums .exit)) (now (text .exit)) (r .mark)) (stepOf (r .way)) ⌝ }
 {
     if !specifier::may_climb(spec) {
-        return Out {
-            way: Way::Next,
-            mark: m,
-        };
+        return files::next(m);
     }
     let p = specifier::normalized(spec);
     let n = p.len;
     let normalized = path::first(&p.bytes, n);
     if !specifier::climbs(normalized) {
-        return Out {
-            way: Way::Next,
-            mark: m,
-        };
+        return files::next(m);
     }
     load_node_modules(l, s, start, normalized, result, nums, text, m, work)
+}
+
+// LOAD_PACKAGE_SELF, LOAD_NODE_MODULES, and once more under the normalised name.
+fn load_package(
+    l: &[u8],
+    s: &[u8],
+    start: &[u8],
+    spec: &[u8],
+    result: &mut [u8],
+    nums: &mut [u32],
+    text: &mut [u8],
+    m: Mark,
+    work: &mut [u8],
+) -> Out
+    requires { ⌜ (1024 ≤ length (now work)) × (length (now spec) ≤ 512) ⌝ }
+    ensures { λ r. ⌜ Done (seenBy (settingsOf (now (s .entry))) (now (l .entry))) (loadPackage (settingsOf (now (s .entry))) (now (start .entry)) (now (spec .entry))) (tapeOf (now (result .entry)) (now (nums .entry)) (now (text .entry)) m) (tapeOf (now (result .exit)) (now (nums .exit)) (now (text .exit)) (r .mark)) (stepOf (r .way)) ⌝ }
+{
+    let out = package_exports::load_package_self(l, s, start, spec, result, nums, text, m, work);
+    let way = out.way;
+    let Way::Next = way else {
+        return out;
+    };
+    let out = load_node_modules(l, s, start, spec, result, nums, text, out.mark, work);
+    let way = out.way;
+    let Way::Next = way else {
+        return out;
+    };
+    load_climbing(l, s, start, spec, result, nums, text, out.mark, work)
 }
 
 // How a lookup ended, and its list.
@@ -390,46 +442,15 @@ fn walk(
     ensures { λ r. ⌜ Done (seenBy (settingsOf (now (s .entry))) (now (l .entry))) (lookup (settingsOf (now (s .entry))) (now (start .entry)) (now (spec .entry))) (tapeOf (now (result .entry)) (now (nums .entry)) (now (text .entry)) (record { count = 0; size = 0 })) (tapeOf (now (result .exit)) (now (nums .exit)) (now (text .exit)) (r .mark)) (stop (r .ending)) ⌝ }
 {
     let m = Mark { count: 0, size: 0 };
-    let out = package_exports::load_package_self(
-        l,
-        s,
-        start,
-        spec,
-        result,
-        nums,
-        text,
-        m,
-        work,
-    );
+    let out = load_package(l, s, start, spec, result, nums, text, m, work);
     let mark = out.mark;
     let way = out.way;
     match way {
-        Way::Next => {}
-        Way::Stopped(ending) => {
-            return Finished { ending, mark };
-        }
-    }
-    let out = load_node_modules(l, s, start, spec, result, nums, text, mark, work);
-    let mark = out.mark;
-    let way = out.way;
-    match way {
-        Way::Next => {}
-        Way::Stopped(ending) => {
-            return Finished { ending, mark };
-        }
-    }
-    let out = load_climbing(l, s, start, spec, result, nums, text, mark, work);
-    let mark = out.mark;
-    let way = out.way;
-    match way {
-        Way::Next => {}
-        Way::Stopped(ending) => {
-            return Finished { ending, mark };
-        }
-    }
-    Finished {
-        ending: files::finish(1, spec, b"", b"", result),
-        mark,
+        Way::Next => Finished {
+            ending: files::not_found(spec, result),
+            mark,
+        },
+        Way::Stopped(ending) => Finished { ending, mark },
     }
 }
 

@@ -10,7 +10,7 @@ use Rattle.directory.proofs.load_as_directory.Lts as lts
 use Rattle.directory.proofs.load_by_manifest.Reads as load-by-manifest-reads
 use Rattle.directory.proofs.own.Reads as own-reads
 use Rattle.files.proofs.load_index.Reads as load-index-reads
-use Rattle.files.proofs.refuse.Reads as refuse-reads
+use Rattle.files.proofs.refused.Reads as refused-reads
 use Rattle.listing.proofs.contents.Reads as contents-reads
 
 pub load-as-directory-spec : {M : Type 1} → statement M
@@ -18,7 +18,7 @@ load-as-directory-spec =
     tie.close
     (tie.spec
     (λ c κs. search needs)
-    (λ c. is-refused _ 25 (too-little _ (c .before .if1 .taken)) (c .refuse .ensures))
+    (λ c. rw (c .refused .ensures) (is-refused _ 25 (too-little _ (c .before .if1 .taken))))
     (λ c κs. search needs)
     (λ c. search needs)
     (λ c. search needs)

@@ -9,9 +9,10 @@ use Rattle.directory.proofs.load_if_directory.Statement.{statement}
 use Rattle.directory.proofs.load_if_directory.Tie as tie
 use Rattle.directory.proofs.load_if_directory.Reads as reads
 use Rattle.directory.proofs.load_if_directory.Lts as lts
+use Rattle.files.proofs.next.Reads as next-reads
 use Rattle.directory.proofs.load_as_directory.Reads as load-as-directory-reads
 use Rattle.files.proofs.consult.Reads as consult-reads
-use Rattle.files.proofs.refuse.Reads as refuse-reads
+use Rattle.files.proofs.refused.Reads as refused-reads
 
 pub load-if-directory-spec : {M : Type 1} → statement M
 unfolding ifDirectory when
@@ -19,13 +20,14 @@ load-if-directory-spec =
     tie.close
     (tie.spec
     (λ c κs. search needs)
-    (λ c. is-refused _ 25 (too-little _ (c .before .if1 .taken)) (c .refuse .ensures))
+    (λ c. rw (c .refused .ensures) (is-refused _ 25 (too-little _ (c .before .if1 .taken))))
+    (λ c κs. search needs)
     (λ c κs. search needs)
     (λ c. search needs)
     (λ c. search needs)
     (λ c.
-    let a = c .before .before .before .before .before .before .before .consult .ensures in
-    is-done _ (enough _ (c .before .before .before .before .before .before .before .before .before .before .if1 .left)) (no-dir _ _ _ _ _ _ (a .0) (a .1 _) _ (c .if2 .taken) done-ret))
+    let a = c .before .before .before .before .before .before .before .before .consult .ensures in
+    rw (c .next .ensures) (is-done _ (enough _ (c .before .before .before .before .before .before .before .before .before .before .before .if1 .left)) (no-dir _ _ _ _ _ _ (a .0) (a .1 _) _ (c .before .if2 .taken) done-ret)))
     (λ c κs. search needs)
     (λ c. search needs)
     (λ c. search needs)

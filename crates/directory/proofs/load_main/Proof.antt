@@ -9,7 +9,7 @@ use Rattle.path.proofs.first.Reads as first-reads
 use Rattle.files.proofs.load_as_file.Reads as load-as-file-reads
 use Rattle.files.proofs.load_index.Reads as load-index-reads
 use Rattle.directory.proofs.main_path.Reads as main-path-reads
-use Rattle.files.proofs.refuse.Reads as refuse-reads
+use Rattle.files.proofs.refused.Reads as refused-reads
 
 pub load-main-spec : {M : Type 1} → statement M
 load-main-spec =
@@ -17,7 +17,7 @@ load-main-spec =
     (tie.spec
     (λ c κs. search needs)
     (λ c κs. search needs)
-    (λ c. rw (c .refuse .ensures) (main-long _ _ _ _ _ _ _ (c .before .before .main-path .ensures) (c .before .if1 .taken)))
+    (λ c. rw (c .refused .ensures) (main-long _ _ _ _ _ _ _ (c .before .before .main-path .ensures) (c .before .if1 .taken)))
     (λ c κs. search needs)
     (λ c κs. search needs)
     (λ c. search needs)

@@ -18,6 +18,7 @@ use Rattle.directory.proofs.load_main_fields.Statement.{statement}
 use Rattle.directory.proofs.load_main_fields.Tie as tie
 use Rattle.directory.proofs.load_main_fields.Reads as reads
 use Rattle.directory.proofs.load_main_fields.Lts as lts
+use Rattle.files.proofs.next.Reads as next-reads
 use Rattle.directory.proofs.load_main_field.Reads as load-main-field-reads
 use Rattle.settings.proofs.count.Reads as count-reads
 
@@ -62,10 +63,11 @@ load-main-fields-spec =
       r .kept .1 .1 .1 .1 .1 .1 .1 .1 .1 .1 .1 .1 .0 ∙ l .inv .3,
       λ j h. left-again _ _ _ _ _ _ _ _ _ _ (left-texts [] _ _ more) (l .inv .4 j h) (onward _ (c .before .enum-told .given .1)) (r .ensures j h),
     ))
+    (λ c κs. search needs)
     (λ c. search needs)
     (λ c. search needs)
     (λ c. search needs)
     (λ c. search needs)
     (λ c.
-    let l = c .before .loop in
-    λ j h. left-end _ _ _ _ _ _ (none-left (textsOf (c .before .before .before .before .before .before .before .before .before .before .before .before .before .args .s .now) 2) (l .i) (omega (arith, c .before .before .count .ensures, c .loop-test .left))) (l .inv .4 j h)))
+    rw (c .next .ensures) (let l = c .before .before .loop in
+    λ j h. left-end _ _ _ _ _ _ (none-left (textsOf (c .before .before .before .before .before .before .before .before .before .before .before .before .before .before .args .s .now) 2) (l .i) (omega (arith, c .before .before .before .count .ensures, c .before .loop-test .left))) (l .inv .4 j h))))

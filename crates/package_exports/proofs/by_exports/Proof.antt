@@ -7,6 +7,7 @@ use Rattle.package_exports.proofs.by_exports.Statement.{statement}
 use Rattle.package_exports.proofs.by_exports.Tie as tie
 use Rattle.package_exports.proofs.by_exports.Reads as reads
 use Rattle.package_exports.proofs.by_exports.Lts as lts
+use Rattle.files.proofs.next.Reads as next-reads
 use Rattle.path.proofs.first.Reads as first-reads
 use Rattle.package_exports.proofs.exports_field.Reads as exports-field-reads
 use Rattle.package_exports.proofs.resolve_exports.Reads as resolve-exports-reads
@@ -20,7 +21,8 @@ by-exports-spec =
     (λ c κs. search needs)
     (λ c. search needs)
     (λ c. search needs)
-    (λ c. λ j h. exports-missing _ _ _ _ j (c .before .before .before .before .before .before .before .before .before .before .before .before .before .args .manifest .now) (c .before .before .exports-field .result) (c .before .before .exports-field .ensures j h) (c .enum-told .given .1))
+    (λ c κs. search needs)
+    (λ c. λ j h. rw (c .next .ensures) (exports-missing _ _ _ _ j (c .before .before .before .before .before .before .before .before .before .before .before .before .before .before .args .manifest .now) (c .before .before .before .exports-field .result) (c .before .before .before .exports-field .ensures j h) (c .before .enum-told .given .1)))
     (λ c. search needs)
     (λ c κs. search needs)
     (λ c. search needs)

@@ -10,8 +10,9 @@ use Rattle.package_exports.proofs.load_package_self.Statement.{statemen
 use Rattle.package_exports.proofs.load_package_self.Tie as tie
 use Rattle.package_exports.proofs.load_package_self.Reads as reads
 use Rattle.package_exports.proofs.load_package_self.Lts as lts
+use Rattle.files.proofs.next.Reads as next-reads
 use Rattle.directory.proofs.scope.Reads as scope-reads
-use Rattle.files.proofs.refuse.Reads as refuse-reads
+use Rattle.files.proofs.refused.Reads as refused-reads
 use Rattle.listing.proofs.contents.Reads as contents-reads
 use Rattle.package_exports.proofs.in_scope.Reads as in-scope-reads
 use Rattle.path.proofs.first.Reads as first-reads
@@ -21,9 +22,9 @@ load-package-self-spec =
     tie.close
     (tie.spec
     (λ c κs. search needs)
-    (λ c. is-refused _ 25 (no-room _ _ (c .before .if1 .taken)) (c .refuse .ensures))
+    (λ c. rw (c .refused .ensures) (is-refused _ 25 (no-room _ _ (c .before .if1 .taken))))
     (λ c κs. search needs)
-    (λ c. is-refused _ 22 (too-long _ _ (c .before .before .if1 .left) (c .before .if2 .taken)) (c .refuse2 .ensures))
+    (λ c. rw (c .refused2 .ensures) (is-refused _ 22 (too-long _ _ (c .before .before .if1 .left) (c .before .if2 .taken))))
     (λ c κs. search needs)
     (λ c. search needs)
     (λ c. search needs)
@@ -37,12 +38,13 @@ load-package-self-spec =
     is-done _ (fits _ _ (c .before .before .before .before .before .before .before .before .before .before .before .before .before .before .if1 .left) (c .before .before .before .before .before .before .before .before .before .before .before .before .before .if2 .left)) (self-ended g (a .start .now) _ (a .l .now) (o .result .way) (o .result .package) (c .before .match .keys2) (o .ensures .0 g)))
     (λ c. search needs)
     (λ c. search needs)
+    (λ c κs. search needs)
     (λ c. search needs)
     (λ c. search needs)
     (λ c. search needs)
     (λ c.
-    let g = settingsOf (c .before .before .before .before .before .before .before .before .before .before .before .before .before .before .before .before .before .before .before .before .before .before .before .before .before .args .s .now) in
-    is-done _ (fits _ _ (c .before .before .before .before .before .before .before .before .before .before .before .before .before .before .before .before .if1 .left) (c .before .before .before .before .before .before .before .before .before .before .before .before .before .before .before .if2 .left)) (self-bare g _ _ (rw (c .before .before .enum-told .given .1, c .enum-told3 .given .1) at (c .before .before .before .before .before .before .before .before .before .before .before .scope .ensures .0 g))))
+    let g = settingsOf (c .before .before .before .before .before .before .before .before .before .before .before .before .before .before .before .before .before .before .before .before .before .before .before .before .before .before .args .s .now) in
+    rw (c .next .ensures) (is-done _ (fits _ _ (c .before .before .before .before .before .before .before .before .before .before .before .before .before .before .before .before .before .if1 .left) (c .before .before .before .before .before .before .before .before .before .before .before .before .before .before .before .before .if2 .left)) (self-bare g _ _ (rw (c .before .before .before .enum-told .given .1, c .before .enum-told3 .given .1) at (c .before .before .before .before .before .before .before .before .before .before .before .before .scope .ensures .0 g)))))
     (λ c κs. search needs)
     (λ c κs. search needs)
     (λ c κs.
