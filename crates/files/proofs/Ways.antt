@@ -1,8 +1,8 @@
 -- The code's `Way` against the definition's steps: what a `let .. else` tells. Assumes nothing.
-use mathlib.Core.Path.{_≡_, refl, ap}
+use mathlib.Core.Path.{_≡_, refl, ap, fun-ext}
 use native.Mathlib.Omega.{arith}
 use denote.Enum.Declared.{tagOf, declared}
-use Rattle.definition.specs.Ask.{Listing, Step, go, stop, Ask, _>>=_}
+use Rattle.definition.specs.Ask.{Listing, Step, go, stop, Ask, ret, end, ask, read, _>>=_}
 use Rattle.definition.specs.Manifest.{End}
 use Rattle.files.specs.declared.Ending.{Ending}
 use Rattle.files.specs.declared.Way.{Way}
@@ -31,3 +31,11 @@ module _ {M B : Type 0} {L : Listing M} {t : Ask End M (Unit {0})} {s s₁ : Tap
 module _ {M : Type 0} {L : Listing M} {t : Ask End M (Unit {0})} {s s₁ : Tape} (w : Way) (f : Unit {0} → Ask End M (Unit {0})) (d : Done L t s s₁ (stepOf w)) where
   pub way-passed : tagOf (declared Way.enum) w ≡ 1 → Done L (t >>= f) s s₁ (stepOf w)
   way-passed h = let x = way-ended w f d h in rw (x .1 .0) (x .1 .1)
+
+-- one routine after two others
+pub bind-bind : {E M A B C : Type 0} (m : Ask E M A) (f : A → Ask E M B) (g : B → Ask E M C) → (m >>= f) >>= g ≡ m >>= λ x. f x >>= g
+unfolding _>>=_
+bind-bind (ret a) f g = refl
+bind-bind (end e) f g = refl
+bind-bind (ask p k) f g = ap (ask p) (fun-ext (λ s. bind-bind (k s) f g))
+bind-bind (read p k) f g = ap (read p) (fun-ext (λ o. bind-bind (k o) f g))

@@ -7,15 +7,15 @@ ghost use Prim.Native.Nat.{ℕ, _+_, min};
 ghost use lib.ListN.{set, getD};
 ghost use Rattle.definition.specs.Text.{text, overwrite};
 ghost use Rattle.definition.specs.Path.{depth, dirs};
-ghost use Rattle.definition.specs.Ask.{asked, opened};
+ghost use Rattle.definition.specs.Ask.{Listing, stop, end, asked, opened};
 ghost use Rattle.definition.specs.Listing.{entryAt};
 ghost use Rattle.definition.specs.Settings.{Settings, textsOf, settingsOf};
 ghost use Rattle.definition.specs.Called.{seenBy};
-ghost use Rattle.definition.specs.Walk.{tryFile, tryExtension, LOAD-AS-FILE, tryIndex, LOAD-INDEX};
+ghost use Rattle.definition.specs.Walk.{notFound, tryFile, tryExtension, LOAD-AS-FILE, tryIndex, LOAD-INDEX};
 ghost use Rattle.listing.specs.Meaning.{seen};
 ghost use Rattle.path.specs.Meaning.{pathOf};
 ghost use Rattle.files.specs.Tape.{most, packed, put, Done};
-ghost use Rattle.files.specs.Meaning.{tapeOf, consultOf, stepOf, place, numbers, tryPath, manifestFound, manifestIn, readOf, seek, soughtOf, loadMainFile};
+ghost use Rattle.files.specs.Meaning.{tapeOf, consultOf, stepOf, place, numbers, Sees, tryPath, manifestFound, manifestIn, readOf, seek, soughtOf, loadMainFile};
 
 // How a lookup ended: the number of document 01, and the lengths of its texts, which stand in the result text.
 pub struct Ending {
@@ -154,10 +154,7 @@ fn try_file<'a>(
     let asked = consult(l, path, nums, text, m);
     let mark = asked.mark;
     if asked.state != 2 {
-        return Out {
-            way: Way::Next,
-            mark,
-        };
+        return next(mark);
     }
     Out {
         way: Way::Stopped(finish(0, path, query, fragment, result)),
@@ -177,6 +174,33 @@ pub fn refuse(number: u8) -> Ending
     }
 }
 
+// A routine that comes back.
+pub fn next(m: Mark) -> Out
+    ensures { λ r. ⌜ r ≡ record { way = Way.Next; mark = m } ⌝ }
+{
+    Out {
+        way: Way::Next,
+        mark: m,
+    }
+}
+
+// A routine that ends the lookup by a refusal.
+pub fn refused(number: u8, m: Mark) -> Out
+    ensures { λ r. ⌜ r ≡ record { way = Way.Stopped (numbers number [] [] []); mark = m } ⌝ }
+{
+    Out {
+        way: Way::Stopped(refuse(number)),
+        mark: m,
+    }
+}
+
+// THROW "not found": an error that names the specifier.
+pub fn not_found(spec: &[u8], result: &mut [u8]) -> Ending
+    ensures { λ r. ⌜ ((L : Listing Sees) (numbers text : List ℕ) (m : Mark) → Done {A = ⊥} L (end (notFound (now (spec .entry)))) (tapeOf (now (result .entry)) numbers text m) (tapeOf (now (result .exit)) numbers text m) (stop r)) ⌝ }
+{
+    finish(1, spec, b"", b"", result)
+}
+
 // A path that was built is tried as a file; an over-long one is refused as 42.
 fn try_path<'a>(
     l: &[u8],
@@ -192,10 +216,7 @@ fn try_path<'a>(
 {
     let n = p.len;
     if n > 2048 {
-        return Out {
-            way: Way::Stopped(refuse(42)),
-            mark: m,
-        };
+        return refused(42, m);
     }
     try_file(
         l,
@@ -383,10 +404,7 @@ pub fn load_as_file<'a>(
         mark = out.mark;
         i += 1;
     }
-    Out {
-        way: Way::Next,
-        mark,
-    }
+    next(mark)
 }
 
 // LOAD_INDEX, one main file of the settings with the i-th extension.
@@ -448,10 +466,7 @@ fn load_main_file<'a>(
         mark = out.mark;
         i += 1;
     }
-    Out {
-        way: Way::Next,
-        mark,
-    }
+    next(mark)
 }
 
 // LOAD_INDEX(X)
@@ -481,8 +496,5 @@ pub fn load_index<'a>(
         mark = out.mark;
         i += 1;
     }
-    Out {
-        way: Way::Next,
-        mark,
-    }
+    next(mark)
 }

@@ -1,3 +1,1 @@
-pub mod Manifests
-pub mod Matches
 pub mod Modules

@@ -14,10 +14,10 @@ use Rattle.definition.specs.Specifier.{packageName, normalizedSpecifier, climbi
 use Rattle.definition.specs.FitLaws.{normalized-short}
 use Rattle.definition.specs.Listing.{entryAt}
 use Rattle.definition.specs.Settings.{Settings}
-use Rattle.definition.specs.Ask.{Listing, Step, go, stop, Ask, ret, asked, _>>=_, _>>_}
+use Rattle.definition.specs.Ask.{Listing, Step, go, stop, Ask, ret, end, asked, _>>=_, _>>_}
 use Rattle.definition.specs.Manifest.{pathTooLong, refusalNumber}
 use Rattle.definition.specs.Called.{seenBy}
-use Rattle.definition.specs.Walk.{Look, when, unless, perhaps, isDir, made, under, bare, LOAD-AS-FILE, LOAD-PACKAGE-EXPORTS, inScopeDir, goOn, asDirectory, asFileOrDirectory, inModules, inDirectory}
+use Rattle.definition.specs.Walk.{Look, when, unless, perhaps, isDir, made, under, bare, notFound, LOAD-AS-FILE, LOAD-PACKAGE-EXPORTS, inScopeDir, goOn, asDirectory, asFileOrDirectory, inModules, inDirectory, lookup}
 use Rattle.path.specs.Meaning.{pathAt}
 use denote.Enum.Declared.{tagOf, declared}
 use Rattle.files.specs.declared.Ending.{Ending}
@@ -25,10 +25,10 @@ use Rattle.files.specs.declared.Way.{Way}
 use Rattle.files.specs.declared.Way.the-variants.{Next, Stopped}
 use Rattle.files.specs.Tape.{Tape, put, Done, done-ret, done-bind, done-stop}
 use Rattle.files.specs.Meaning.{Sees, consultOf, numbers, stepOf}
-use Rattle.resolver.specs.Routines.{directoryOrFile, goingOf}
+use Rattle.resolver.specs.Routines.{goingOf, fileFirst, directoryOrFile, inPackage, loadPackage}
 use Rattle.files.proofs.Steps.{made-long, made-fits, by-state}
 use Rattle.files.proofs.Climbs.{prefix, parent-take}
-use Rattle.files.proofs.Ways.{ended, way-passed, way-onward}
+use Rattle.files.proofs.Ways.{bind-bind, way-passed, way-onward}
 use Rattle.files.proofs.Way
 
 -- where DIR/NAME is no directory
@@ -55,12 +55,9 @@ module _ (G : Settings) {L : Listing Sees} (spec name sub q : Text) where
       by (x ∷ u) h = absurd (omega arith)
 
 -- LOAD_AS_FILE first, or not
-abbrev FileFirst : Settings → (spec name q : Text) → Look (Unit {0})
-FileFirst G spec name q = unless (equal spec name) (unless (endsWith (text "/") spec) (LOAD-AS-FILE G (bare q)))
-
 module _ (G : Settings) {L : Listing Sees} (spec name q : Text) where
-  file-skipped : {s : Tape} → (not (equal spec name) && not (endsWith (text "/") spec)) ≡ false → Done L (FileFirst G spec name q) s s (go tt)
-  unfolding unless
+  pub file-skipped : {s : Tape} → (not (equal spec name) && not (endsWith (text "/") spec)) ≡ false → Done L (fileFirst G spec name q) s s (go tt)
+  unfolding fileFirst unless
   file-skipped {s} e = by (equal spec name) (endsWith (text "/") spec) e
     where
       by : (a b : Bool) → (not a && not b) ≡ false → Done L (unless a (unless b (LOAD-AS-FILE G (bare q)))) s s (go tt)
@@ -68,8 +65,8 @@ module _ (G : Settings) {L : Listing Sees} (spec name q : Text) where
       by false true e = done-ret
       by false false e = absurd (false≢true (sym e))
 
-  file-tried : {s s₁ : Tape} {t : Step Ending (Unit {0})} → (not (equal spec name) && not (endsWith (text "/") spec)) ≡ true → Done L (LOAD-AS-FILE G (bare q)) s s₁ t → Done L (FileFirst G spec name q) s s₁ t
-  unfolding unless
+  pub file-tried : {s s₁ : Tape} {t : Step Ending (Unit {0})} → (not (equal spec name) && not (endsWith (text "/") spec)) ≡ true → Done L (LOAD-AS-FILE G (bare q)) s s₁ t → Done L (fileFirst G spec name q) s s₁ t
+  unfolding fileFirst unless
   file-tried {s} {s₁} {t} e d = by (equal spec name) (endsWith (text "/") spec) e
     where
       by : (a b : Bool) → (not a && not b) ≡ true → Done L (unless a (unless b (LOAD-AS-FILE G (bare q)))) s s₁ t
@@ -82,19 +79,14 @@ module _ (G : Settings) {L : Listing Sees} (spec name nm bytes : Text) (n : ℕ)
   unfolding asFileOrDirectory under
   both-long s h = made-long bytes n e _ s h
 
-  module _ (h : n ≤ 2048) {s s₁ : Tape} where
-    pub directory-only : {r : Step Ending (Unit {0})} → (not (equal spec name) && not (endsWith (text "/") spec)) ≡ false → Done L (directoryOrFile G (take n bytes)) s s₁ r → Done L (asFileOrDirectory G spec name nm) s s₁ r
-    unfolding asFileOrDirectory under directoryOrFile _>>_
-    directory-only q d = made-fits bytes n e _ h (done-bind _ (file-skipped G spec name (take n bytes) q) d)
+  module _ (h : n ≤ 2048) {s s₁ : Tape} (w : Way) (d : Done L (fileFirst G spec name (take n bytes)) s s₁ (stepOf w)) where
+    pub file-found : tagOf (declared Way.enum) w ≡ 1 → Done L (asFileOrDirectory G spec name nm) s s₁ (stepOf w)
+    unfolding asFileOrDirectory fileFirst under _>>_
+    file-found z = made-fits bytes n e _ h (way-passed w _ d z)
 
-    module _ (w : Way) (q : (not (equal spec name) && not (endsWith (text "/") spec)) ≡ true) (d : Done L (LOAD-AS-FILE G (bare (take n bytes))) s s₁ (stepOf w)) where
-      pub file-found : tagOf (declared Way.enum) w ≡ 1 → Done L (asFileOrDirectory G spec name nm) s s₁ (stepOf w)
-      unfolding asFileOrDirectory under _>>_
-      file-found z = made-fits bytes n e _ h (way-passed w _ (file-tried G spec name (take n bytes) q d) z)
-
-      pub then-directory : {s₂ : Tape} {r : Step Ending (Unit {0})} → w ≡ Next → Done L (directoryOrFile G (take n bytes)) s₁ s₂ r → Done L (asFileOrDirectory G spec name nm) s s₂ r
-      unfolding asFileOrDirectory under directoryOrFile _>>_
-      then-directory z g = made-fits bytes n e _ h (way-onward w _ (file-tried G spec name (take n bytes) q d) z g)
+    pub then-directory : {s₂ : Tape} {r : Step Ending (Unit {0})} → w ≡ Next → Done L (directoryOrFile G (take n bytes)) s₁ s₂ r → Done L (asFileOrDirectory G spec name nm) s s₂ r
+    unfolding asFileOrDirectory fileFirst under directoryOrFile _>>_
+    then-directory z g = made-fits bytes n e _ h (way-onward w _ d z g)
 
 -- where DIR/NAME is a directory: its exports, and then b. and c.
 pub exports-loaded : (G : Settings) {L : Listing Sees} (spec name sub q : Text) {s s₁ : Tape} (w : Way) → Done L (LOAD-PACKAGE-EXPORTS G spec sub q) s s₁ (stepOf w) → Done L (goOn G spec name sub q true) s s₁ (goingOf w true)
@@ -102,31 +94,36 @@ unfolding goOn _>>_
 exports-loaded G spec name sub q Next d = done-bind _ d done-ret
 exports-loaded G spec name sub q (Stopped x) d = done-stop _ d
 
--- one node_modules directory: DIR/NAME was asked for and its exports were loaded
-module _ (G : Settings) (spec name sub nm bytes : Text) (n : ℕ) (e : pathAt bytes n ≡ normalizeWith nm name) where
-  pub modules-long : {L : Listing Sees} (s : Tape) → 2048 < n → Done L (inModules G spec name sub nm) s s (stop (numbers 42 [] [] []))
+-- one node_modules directory
+module _ (G : Settings) (spec name sub nm bytes : Text) (n : ℕ) (e : pathAt bytes n ≡ normalizeWith nm name) {L : Listing Sees} {s : Tape} where
+  pub modules-long : 2048 < n → Done L (inModules G spec name sub nm) s s (stop (numbers 42 [] [] []))
   unfolding inModules under
-  modules-long s h = made-long bytes n e _ s h
+  modules-long h = made-long bytes n e _ s h
 
-  module _ (l : Text) (s s₁ : Tape) (k : ℕ) (a : k ≡ asked (entryAt l (take n bytes))) (d : s₁ ≡ put s (consultOf (take n bytes) k)) (h : n ≤ 2048) (w : Way) (more : Bool) {s₂ : Tape} (g : Done (seenBy G l) (goOn G spec name sub (take n bytes) (eqb k 1)) s₁ s₂ (goingOf w more)) where
-    going : {A : Type 0} {s₃ : Tape} {r : Step Ending A} (f : Bool → Look A) → Done (seenBy G l) (goOn G spec name sub (take n bytes) (eqb k 1) >>= f) s₁ s₃ r → Done (seenBy G l) (made (normalizeWith nm name) >>= λ q. isDir q >>= λ b. goOn G spec name sub q b >>= f) s s₃ r
-    going f z = made-fits bytes n e _ h (by-state G l (take n bytes) s s₁ k a d (λ b. goOn G spec name sub (take n bytes) b >>= f) z)
+  pub modules-there : {s₁ : Tape} {r : Step Ending (Unit {0})} → n ≤ 2048 → Done L (inPackage G spec name sub nm (take n bytes)) s s₁ r → Done L (inModules G spec name sub nm) s s₁ r
+  unfolding inModules inPackage under
+  modules-there h d = made-fits bytes n e _ h d
 
-    pub modules-ended : tagOf (declared Way.enum) w ≡ 1 → Done (seenBy G l) (inModules G spec name sub nm) s s₂ (stepOf w)
-    unfolding inModules under
-    modules-ended z = let x = ended w z in going _ (by w (x .0) (x .1) g)
-      where
-        by : (w : Way) (x : Ending) → stepOf w ≡ stop x → Done (seenBy G l) (goOn G spec name sub (take n bytes) (eqb k 1)) s₁ s₂ (goingOf w more) → Done (seenBy G l) (goOn G spec name sub (take n bytes) (eqb k 1) >>= λ m. when m (asFileOrDirectory G spec name nm)) s₁ s₂ (stepOf w)
-        by Next x e g = absurd (let z : _≡_ {A = ℕ} 0 1 = cc in omega arith)
-        by (Stopped y) x e g = done-stop _ g
+-- DIR/NAME was asked for and its exports were loaded
+module _ (G : Settings) (spec name sub nm q l : Text) (s s₁ s₂ : Tape) (k : ℕ) (a : k ≡ asked (entryAt l q)) (d : s₁ ≡ put s (consultOf q k)) (w : Way) (more : Bool) (g : Done (seenBy G l) (goOn G spec name sub q (eqb k 1)) s₁ s₂ (goingOf w more)) where
+  going : {s₃ : Tape} {r : Step Ending (Unit {0})} → Done (seenBy G l) (goOn G spec name sub q (eqb k 1) >>= λ m. when m (asFileOrDirectory G spec name nm)) s₁ s₃ r → Done (seenBy G l) (inPackage G spec name sub nm q) s s₃ r
+  unfolding inPackage
+  going z = by-state G l q s s₁ k a d (λ b. goOn G spec name sub q b >>= λ m. when m (asFileOrDirectory G spec name nm)) z
 
-    pub modules-past : w ≡ Next → more ≡ false → Done (seenBy G l) (inModules G spec name sub nm) s s₂ (go tt)
-    unfolding inModules under when
-    modules-past z m = going _ (done-bind _ (rw (z, m) at g) done-ret)
+  pub package-ended : tagOf (declared Way.enum) w ≡ 1 → Done (seenBy G l) (inPackage G spec name sub nm q) s s₂ (stepOf w)
+  package-ended z = going (by w z g)
+    where
+      by : (w : Way) → tagOf (declared Way.enum) w ≡ 1 → Done (seenBy G l) (goOn G spec name sub q (eqb k 1)) s₁ s₂ (goingOf w more) → Done (seenBy G l) (goOn G spec name sub q (eqb k 1) >>= λ m. when m (asFileOrDirectory G spec name nm)) s₁ s₂ (stepOf w)
+      by Next z g = absurd (omega arith)
+      by (Stopped y) z g = done-stop _ g
 
-    pub modules-on : {s₃ : Tape} {r : Step Ending (Unit {0})} → w ≡ Next → more ≡ true → Done (seenBy G l) (asFileOrDirectory G spec name nm) s₂ s₃ r → Done (seenBy G l) (inModules G spec name sub nm) s s₃ r
-    unfolding inModules under when
-    modules-on z m f = going _ (done-bind _ (rw (z, m) at g) f)
+  pub package-past : w ≡ Next → more ≡ false → Done (seenBy G l) (inPackage G spec name sub nm q) s s₂ (go tt)
+  unfolding when
+  package-past z m = going (done-bind _ (rw (z, m) at g) done-ret)
+
+  pub package-on : {s₃ : Tape} {r : Step Ending (Unit {0})} → w ≡ Next → more ≡ true → Done (seenBy G l) (asFileOrDirectory G spec name nm) s₂ s₃ r → Done (seenBy G l) (inPackage G spec name sub nm q) s s₃ r
+  unfolding when
+  package-on z m f = going (done-bind _ (rw (z, m) at g) f)
 
 -- THE CLIMB. The k directories from p on, p first
 abbrev pub climbed : ℕ → Text → List Text
@@ -206,3 +203,15 @@ normalized-here spec bytes n h e =
     by : (t : Bool) → (if t then built (take n bytes) else tooLong) ≡ built (normalizedSpecifier spec) → take n bytes ≡ normalizedSpecifier spec
     by true z = cc
     by false z = absurd (let q : _≡_ {A = ℕ} 0 1 = cc in omega arith)
+
+-- THE LOOKUP: it ended, or nothing was found
+module _ (G : Settings) (start spec : Text) {L : Listing Sees} {s : Tape} where
+  then-none : {s₁ : Tape} {r : Step Ending ⊥} → Done L (loadPackage G start spec >>= λ _. end (notFound spec)) s s₁ r → Done L (lookup G start spec) s s₁ r
+  unfolding lookup loadPackage _>>_
+  then-none d = simp bind-bind at d
+
+  pub lookup-ended : {s₁ : Tape} (x : Ending) → Done L (loadPackage G start spec) s s₁ (stop x) → Done L (lookup G start spec) s s₁ (stop x)
+  lookup-ended x d = then-none (done-stop _ d)
+
+  pub lookup-none : {s₁ s₂ : Tape} (x : Ending) → Done L (loadPackage G start spec) s s₁ (go tt) → Done L (end (notFound spec)) s₁ s₂ (stop x) → Done L (lookup G start spec) s s₂ (stop x)
+  lookup-none x d g = then-none (done-bind _ d g)

@@ -1,847 +1,22 @@
-// The walk of lib.rs from LOAD_AS_DIRECTORY on, over a lent listing.
-use exports::Key;
-use exports::Match;
-use exports::Outcome;
+// The walk of lib.rs through node_modules, over a lent listing, and the lookup of a bare specifier.
 use files::Ending;
 use files::Mark;
-use files::Near;
 use files::Out;
 use files::Way;
-use package_json::Cursor;
-use package_json::TextAt;
-use path::PathBuf;
-use settings::Kind;
-use specifier::Stripped;
 ghost use mathlib.Core.Path.{_≡_};
 ghost use mathlib.Core.Bool.{false, not, _&&_};
 ghost use mathlib.Core.List.{List, []};
 ghost use Prim.Native.Nat.{ℕ, _≤_, _<_};
-ghost use lib.ListN.{length, getD, drop, take};
+ghost use lib.ListN.{length};
 ghost use Rattle.definition.specs.Text.{text, equal, endsWith};
-ghost use Rattle.definition.specs.Path.{dirs, manifestOf, normalizeWith};
 ghost use Rattle.definition.specs.Specifier.{climbing};
-ghost use Rattle.definition.specs.Json.{Json};
-ghost use Rattle.definition.specs.JsonAtLaws.{Stands, Finds};
-ghost use Rattle.definition.specs.Exports.{Context, orDot};
-ghost use Rattle.definition.specs.Ask.{Listing, go, stop};
-ghost use Rattle.definition.specs.ListingSteps.{part};
-ghost use Rattle.definition.specs.Settings.{Settings, textsOf, settingsOf};
-ghost use Rattle.definition.specs.Manifest.{ifText, field, firstField, resolvedTo, manifestView, view};
+ghost use Rattle.definition.specs.Ask.{go, stop};
+ghost use Rattle.definition.specs.Settings.{Settings, settingsOf};
 ghost use Rattle.definition.specs.Called.{seenBy};
-ghost use Rattle.definition.specs.Walk.{perhaps, forEach, given, never, sound, mainPath, nearest, own as ownIn, loadMain, LOAD-AS-DIRECTORY, RESOLVE-ESM-MATCH, byExports, LOAD-PACKAGE-EXPORTS, inScope, LOAD-PACKAGE-SELF, goOn, asFileOrDirectory, inModules, inDirectory, LOAD-NODE-MODULES, lookup};
-ghost use Rattle.path.specs.Meaning.{pathOf};
-ghost use Rattle.json_text.specs.Scanned.{faultOf};
-ghost use Rattle.package_json.specs.Cursors.{placed};
-ghost use Rattle.json_text.specs.Texts.{textOf};
-ghost use Rattle.exports.specs.Keys.{matchOf};
-ghost use Rattle.exports.specs.Contexts.{partText};
-ghost use Rattle.exports.specs.Answers.{outcomeIn};
-ghost use Rattle.exports.specs.Chosen.{keyText};
+ghost use Rattle.definition.specs.Walk.{perhaps, goOn, asFileOrDirectory, inModules, inDirectory, LOAD-NODE-MODULES, lookup};
 ghost use Rattle.files.specs.Tape.{Done};
-ghost use Rattle.files.specs.Meaning.{tapeOf, stepOf, place, numbers, Sees};
-ghost use Rattle.resolver.specs.Routines.{judged, scopeOf, ownOf, Held, Fits, mainField, ifDirectory, Finishes, foundOf, matchExports, goingOf, directoryOrFile, Refused};
-
-// The end of a lookup by an error that names a manifest only.
-fn manifest_ending(number: u8, dir: &[u8], result: &mut [u8]) -> Ending
-    requires { ⌜ length (manifestOf (now dir)) ≤ 2048 ⌝ }
-    ensures { λ r. ⌜ Finishes number (manifestOf (now (dir .entry))) [] [] r (now (result .entry)) (now (result .exit)) ⌝ }
-{
-    let p = PathBuf::from(dir).push_manifest();
-    let n = p.len;
-    files::finish(number, path::first(&p.bytes, n), b"", b"", result)
-}
-
-// A fault of a manifest ends the lookup; of one that is no JSON the path is told.
-fn fault_ending(f: package_json::Fault, dir: &[u8], result: &mut [u8]) -> Ending
-    requires { ⌜ length (manifestOf (now dir)) ≤ 2048 ⌝ }
-    ensures { λ r. ⌜ ((L : Listing Sees) (numbers list : List ℕ) (m : Mark) → Done L (sound (manifestOf (now (dir .entry))) (stop (faultOf f))) (tapeOf (now (result .entry)) numbers list m) (tapeOf (now (result .exit)) numbers list m) (stop r)) ⌝ }
-{
-    match f {
-        package_json::Fault::Malformed => manifest_ending(7, dir, result),
-        package_json::Fault::Beyond => files::refuse(40),
-        package_json::Fault::Twice => files::refuse(41),
-    }
-}
-
-// A manifest without fault: the length of its directory within the path, where its contents lie, and its root value in them.
-pub enum Package {
-    Nowhere,
-    At {
-        dir: usize,
-        start: usize,
-        end: usize,
-        root: usize,
-    },
-}
-
-pub struct Scoped {
-    pub way: Way,
-    pub package: Package,
-    pub mark: Mark,
-}
-
-// The manifest that was found, judged.
-fn judge(
-    l: &[u8],
-    dir: &[u8],
-    n: usize,
-    start: usize,
-    end: usize,
-    result: &mut [u8],
-    m: Mark,
-) -> Scoped
-    requires { ⌜ length (manifestOf (take n (now dir))) ≤ 2048 ⌝ }
-    ensures done { λ r. ⌜ ((G : Settings) (numbers text : List ℕ) → Done (seenBy G (now (l .entry))) (judged (record { dir = take n (now (dir .entry)); sees = view G (part (now (l .entry)) start end) })) (tapeOf (now (result .entry)) numbers text m) (tapeOf (now (result .exit)) numbers text (r .mark)) (scopeOf G (now (l .entry)) (now (dir .entry)) (r .way) (r .package))) ⌝ }
-    ensures held { λ r. ⌜ Held (now (l .entry)) (r .package) ⌝ }
-{
-    let checked = package_json::check(listing::contents(l, start, end));
-    match checked {
-        package_json::Checked::Root(root) => Scoped {
-            way: Way::Next,
-            package: Package::At {
-                dir: n,
-                start,
-                end,
-                root,
-            },
-            mark: m,
-        },
-        package_json::Checked::Fault(f) => Scoped {
-            way: Way::Stopped(fault_ending(f, path::first(dir, n), result)),
-            package: Package::Nowhere,
-            mark: m,
-        },
-    }
-}
-
-// The closest package scope of a directory.
-fn scope(
-    l: &[u8],
-    dir: &[u8],
-    result: &mut [u8],
-    nums: &mut [u32],
-    text: &mut [u8],
-    m: Mark,
-) -> Scoped
-    ensures done { λ r. ⌜ ((G : Settings) → Done (seenBy G (now (l .entry))) (nearest G (dirs (now (dir .entry)))) (tapeOf (now (result .entry)) (now (nums .entry)) (now (text .entry)) m) (tapeOf (now (result .exit)) (now (nums .exit)) (now (text .exit)) (r .mark)) (scopeOf G (now (l .entry)) (now (dir .entry)) (r .way) (r .package))) ⌝ }
-    ensures held { λ r. ⌜ Held (now (l .entry)) (r .package) ⌝ }
-{
-    let nearest = files::find_package_json(l, dir, nums, text, m);
-    let mark = nearest.mark;
-    let near = nearest.near;
-    match near {
-        Near::Nowhere => Scoped {
-            way: Way::Next,
-            package: Package::Nowhere,
-            mark,
-        },
-        Near::At { dir: n, start, end } => judge(l, dir, n, start, end, result, mark),
-        Near::TooLong => Scoped {
-            way: Way::Stopped(files::refuse(42)),
-            package: Package::Nowhere,
-            mark,
-        },
-    }
-}
-
-// The directory's own manifest: the nearest is read, and kept only where it is in the directory itself.
-fn own(
-    l: &[u8],
-    dir: &[u8],
-    result: &mut [u8],
-    nums: &mut [u32],
-    text: &mut [u8],
-    m: Mark,
-) -> Scoped
-    ensures done { λ r. ⌜ ((G : Settings) → Done (seenBy G (now (l .entry))) (ownIn G (now (dir .entry))) (tapeOf (now (result .entry)) (now (nums .entry)) (now (text .entry)) m) (tapeOf (now (result .exit)) (now (nums .exit)) (now (text .exit)) (r .mark)) (ownOf G (now (l .entry)) (r .way) (r .package))) ⌝ }
-    ensures held { λ r. ⌜ Held (now (l .entry)) (r .package) ⌝ }
-    ensures fits { λ r. ⌜ Fits (now (dir .entry)) (r .way) (r .package) ⌝ }
-{
-    let found = scope(l, dir, result, nums, text, m);
-    let package = found.package;
-    let Package::At {
-        dir: n,
-        start: _,
-        end: _,
-        root: _,
-    } = package
-    else {
-        return found;
-    };
-    if n >= dir.len() {
-        return found;
-    }
-    let way = found.way;
-    let mark = found.mark;
-    Scoped {
-        way,
-        package: Package::Nowhere,
-        mark,
-    }
-}
-
-// The text of a member of the root value, where it is a string.
-fn text_field(m: &[u8], root: usize, name: &[u8], work: &mut [u8]) -> TextAt
-    requires { ⌜ 1024 ≤ length (now work) ⌝ }
-    ensures { λ r. ⌜ ((j : Json) → Stands 16 (drop root (now (m .entry))) j → textOf (now (m .entry)) (now (work .exit)) r ≡ ifText (field j (now (name .entry)))) ⌝ }
-{
-    let at = package_json::get(m, root, name);
-    match at {
-        Cursor::At(i) => package_json::read_text(m, i, work),
-        Cursor::Nothing => TextAt::Nothing,
-    }
-}
-
-// A main field below its directory: an empty one is the directory itself, and one that begins with "/" is not absolute.
-fn main_path(base: &[u8], main: &[u8]) -> PathBuf
-    ensures { λ r. ⌜ pathOf r ≡ normalizeWith (now (base .entry)) (mainPath (now (main .entry))) ⌝ }
-{
-    if main.len() == 0 {
-        return path::normalize_below(base, main);
-    }
-    if main[0] == b'/' {
-        return path::normalize_below(base, main);
-    }
-    path::normalize_with(base, main)
-}
-
-// LOAD_AS_DIRECTORY(X), 1.c to e: M is tried as a file and as a directory's index.
-fn load_main<'a>(
-    l: &[u8],
-    s: &[u8],
-    main: &[u8],
-    path: &[u8],
-    query: &'a [u8],
-    fragment: &'a [u8],
-    result: &mut [u8],
-    nums: &mut [u32],
-    text: &mut [u8],
-    m: Mark,
-) -> Out
-    ensures { λ r. ⌜ Done (seenBy (settingsOf (now (s .entry))) (now (l .entry))) (loadMain (settingsOf (now (s .entry))) (place (now (path .entry)) (now (query .entry)) (now (fragment .entry))) (now (main .entry))) (tapeOf (now (result .entry)) (now (nums .entry)) (now (text .entry)) m) (tapeOf (now (result .exit)) (now (nums .exit)) (now (text .exit)) (r .mark)) (stepOf (r .way)) ⌝ }
-{
-    let p = main_path(path, main);
-    let n = p.len;
-    if n > 2048 {
-        return Out {
-            way: Way::Stopped(files::refuse(42)),
-            mark: m,
-        };
-    }
-    let q = path::first(&p.bytes, n);
-    let out = files::load_as_file(l, s, q, query, fragment, result, nums, text, m);
-    let way = out.way;
-    let Way::Next = way else {
-        return out;
-    };
-    files::load_index(l, s, q, query, fragment, result, nums, text, out.mark)
-}
-
-// LOAD_AS_DIRECTORY(X), 1.a, for the i-th main field of the settings.
-fn load_main_field<'a>(
-    l: &[u8],
-    s: &[u8],
-    i: usize,
-    manifest: &[u8],
-    root: usize,
-    path: &[u8],
-    query: &'a [u8],
-    fragment: &'a [u8],
-    result: &mut [u8],
-    nums: &mut [u32],
-    text: &mut [u8],
-    m: Mark,
-    work: &mut [u8],
-) -> Out
-    requires { ⌜ 1024 ≤ length (now work) ⌝ }
-    ensures { λ r. ⌜ ((j : Json) → Stands 16 (drop root (now (manifest .entry))) j → Done (seenBy (settingsOf (now (s .entry))) (now (l .entry))) (perhaps (ifText (field j (getD (textsOf (now (s .entry)) 2) i []))) (loadMain (settingsOf (now (s .entry))) (place (now (path .entry)) (now (query .entry)) (now (fragment .entry))))) (tapeOf (now (result .entry)) (now (nums .entry)) (now (text .entry)) m) (tapeOf (now (result .exit)) (now (nums .exit)) (now (text .exit)) (r .mark)) (stepOf (r .way))) ⌝ }
-{
-    let t = text_field(manifest, root, settings::text(s, Kind::MainFields, i), work);
-    let TextAt::Nothing = t else {
-        let main = package_json::text_at(manifest, work, t);
-        return load_main(l, s, main, path, query, fragment, result, nums, text, m);
-    };
-    Out {
-        way: Way::Next,
-        mark: m,
-    }
-}
-
-// LOAD_AS_DIRECTORY(X), 1.a to e, for each main field of the settings.
-fn load_main_fields<'a>(
-    l: &[u8],
-    s: &[u8],
-    manifest: &[u8],
-    root: usize,
-    path: &[u8],
-    query: &'a [u8],
-    fragment: &'a [u8],
-    result: &mut [u8],
-    nums: &mut [u32],
-    text: &mut [u8],
-    m: Mark,
-    work: &mut [u8],
-) -> Out
-    requires { ⌜ 1024 ≤ length (now work) ⌝ }
-    ensures { λ r. ⌜ ((j : Json) → Stands 16 (drop root (now (manifest .entry))) j → Done (seenBy (settingsOf (now (s .entry))) (now (l .entry))) (forEach (textsOf (now (s .entry)) 2) (mainField (settingsOf (now (s .entry))) (place (now (path .entry)) (now (query .entry)) (now (fragment .entry))) j)) (tapeOf (now (result .entry)) (now (nums .entry)) (now (text .entry)) m) (tapeOf (now (result .exit)) (now (nums .exit)) (now (text .exit)) (r .mark)) (stepOf (r .way))) ⌝ }
-{
-    let mut mark = m;
-    let n = settings::count(s, Kind::MainFields);
-    let mut i = 0;
-    while i < n {
-        let out = load_main_field(
-            l,
-            s,
-            i,
-            manifest,
-            root,
-            path,
-            query,
-            fragment,
-            result,
-            nums,
-            text,
-            mark,
-            work,
-        );
-        let way = out.way;
-        let Way::Next = way else {
-            return out;
-        };
-        mark = out.mark;
-        i += 1;
-    }
-    Out {
-        way: Way::Next,
-        mark,
-    }
-}
-
-// LOAD_AS_DIRECTORY(X)
-fn load_as_directory<'a>(
-    l: &[u8],
-    s: &[u8],
-    path: &[u8],
-    query: &'a [u8],
-    fragment: &'a [u8],
-    result: &mut [u8],
-    nums: &mut [u32],
-    text: &mut [u8],
-    m: Mark,
-    work: &mut [u8],
-) -> Out
-    requires { ⌜ 1024 ≤ length (now work) ⌝ }
-    ensures { λ r. ⌜ Done (seenBy (settingsOf (now (s .entry))) (now (l .entry))) (LOAD-AS-DIRECTORY (settingsOf (now (s .entry))) (place (now (path .entry)) (now (query .entry)) (now (fragment .entry)))) (tapeOf (now (result .entry)) (now (nums .entry)) (now (text .entry)) m) (tapeOf (now (result .exit)) (now (nums .exit)) (now (text .exit)) (r .mark)) (stepOf (r .way)) ⌝ }
-{
-    let found = own(l, path, result, nums, text, m);
-    let mark = found.mark;
-    let way = found.way;
-    let Way::Next = way else {
-        return Out { way, mark };
-    };
-    let package = found.package;
-    let Package::At {
-        dir: _,
-        start,
-        end,
-        root,
-    } = package
-    else {
-        return files::load_index(l, s, path, query, fragment, result, nums, text, mark);
-    };
-    let manifest = listing::contents(l, start, end);
-    let out = load_main_fields(
-        l,
-        s,
-        manifest,
-        root,
-        path,
-        query,
-        fragment,
-        result,
-        nums,
-        text,
-        mark,
-        work,
-    );
-    let way = out.way;
-    let Way::Next = way else {
-        return out;
-    };
-    files::load_index(l, s, path, query, fragment, result, nums, text, out.mark)
-}
-
-// LOAD_AS_DIRECTORY(X) where X is a directory.
-fn load_if_directory<'a>(
-    l: &[u8],
-    s: &[u8],
-    path: &[u8],
-    query: &'a [u8],
-    fragment: &'a [u8],
-    result: &mut [u8],
-    nums: &mut [u32],
-    text: &mut [u8],
-    m: Mark,
-    work: &mut [u8],
-) -> Out
-    requires { ⌜ 1024 ≤ length (now work) ⌝ }
-    ensures { λ r. ⌜ Done (seenBy (settingsOf (now (s .entry))) (now (l .entry))) (ifDirectory (settingsOf (now (s .entry))) (place (now (path .entry)) (now (query .entry)) (now (fragment .entry)))) (tapeOf (now (result .entry)) (now (nums .entry)) (now (text .entry)) m) (tapeOf (now (result .exit)) (now (nums .exit)) (now (text .exit)) (r .mark)) (stepOf (r .way)) ⌝ }
-{
-    let asked = files::consult(l, path, nums, text, m);
-    let mark = asked.mark;
-    if asked.state != 1 {
-        return Out {
-            way: Way::Next,
-            mark,
-        };
-    }
-    load_as_directory(l, s, path, query, fragment, result, nums, text, mark, work)
-}
-
-// RESOLVE_ESM_MATCH(MATCH): it always ends the lookup.
-fn resolve_esm_match<'a>(
-    l: &[u8],
-    s: &[u8],
-    spec: &[u8],
-    path: &[u8],
-    query: &'a [u8],
-    fragment: &'a [u8],
-    result: &mut [u8],
-    nums: &mut [u32],
-    text: &mut [u8],
-    m: Mark,
-    work: &mut [u8],
-) -> Out
-    requires { ⌜ 1024 ≤ length (now work) ⌝ }
-    ensures { λ r. ⌜ Done (seenBy (settingsOf (now (s .entry))) (now (l .entry))) (never (RESOLVE-ESM-MATCH (settingsOf (now (s .entry))) (now (spec .entry)) (place (now (path .entry)) (now (query .entry)) (now (fragment .entry))))) (tapeOf (now (result .entry)) (now (nums .entry)) (now (text .entry)) m) (tapeOf (now (result .exit)) (now (nums .exit)) (now (text .exit)) (r .mark)) (stepOf (r .way)) ⌝ }
-{
-    let out = files::load_as_file(l, s, path, query, fragment, result, nums, text, m);
-    let way = out.way;
-    let Way::Next = way else {
-        return out;
-    };
-    let out = load_if_directory(
-        l,
-        s,
-        path,
-        query,
-        fragment,
-        result,
-        nums,
-        text,
-        out.mark,
-        work,
-    );
-    let way = out.way;
-    let Way::Next = way else {
-        return out;
-    };
-    let mark = out.mark;
-    Out {
-        way: Way::Stopped(files::finish(1, spec, b"", b"", result)),
-        mark,
-    }
-}
-
-// The first exports field of the settings that the manifest has.
-fn exports_field(m: &[u8], root: usize, s: &[u8]) -> Cursor
-    ensures { λ r. ⌜ ((j : Json) → Stands 16 (drop root (now (m .entry))) j → Finds 15 (firstField j (textsOf (now (s .entry)) 4)) (placed (now (m .entry)) r)) ⌝ }
-{
-    let n = settings::count(s, Kind::ExportsFields);
-    let mut i = 0;
-    while i < n {
-        let at = package_json::get(m, root, settings::text(s, Kind::ExportsFields, i));
-        let Cursor::Nothing = at else {
-            return at;
-        };
-        i += 1;
-    }
-    Cursor::Nothing
-}
-
-// An error that names a target, the key that led to it and the manifest.
-fn invalid_target(
-    m: &[u8],
-    target: &[u8],
-    subpath: &[u8],
-    key: Key,
-    dir: &[u8],
-    result: &mut [u8],
-    work: &mut [u8],
-) -> Ending
-    requires { ⌜ (1024 ≤ length (now work)) × (length (manifestOf (now dir)) ≤ 2048) ⌝ }
-    ensures { λ r. ⌜ Finishes 3 (now (target .entry)) (keyText (now (m .entry)) (now (subpath .entry)) key) (manifestOf (now (dir .entry))) r (now (result .entry)) (now (result .exit)) ⌝ }
-{
-    let p = PathBuf::from(dir).push_manifest();
-    let n = p.len;
-    let manifest = path::first(&p.bytes, n);
-    match key {
-        Key::Dot => files::finish(3, target, b".", manifest, result),
-        Key::Subpath => files::finish(3, target, subpath, manifest, result),
-        Key::At(i) => {
-            let t = package_json::read_text(m, i, work);
-            let name = package_json::text_at(m, work, t);
-            files::finish(3, target, name, manifest, result)
-        }
-    }
-}
-
-// An error that names a key that is not exported, and the package's directory.
-fn key_not_exported(
-    m: &[u8],
-    subpath: &[u8],
-    key: Key,
-    dir: &[u8],
-    result: &mut [u8],
-    work: &mut [u8],
-) -> Ending
-    requires { ⌜ 1024 ≤ length (now work) ⌝ }
-    ensures { λ r. ⌜ Finishes 4 (keyText (now (m .entry)) (now (subpath .entry)) key) (now (dir .entry)) [] r (now (result .entry)) (now (result .exit)) ⌝ }
-{
-    match key {
-        Key::Dot => files::finish(4, b".", dir, b"", result),
-        Key::Subpath => files::finish(4, subpath, dir, b"", result),
-        Key::At(i) => {
-            let t = package_json::read_text(m, i, work);
-            let name = package_json::text_at(m, work, t);
-            files::finish(4, name, dir, b"", result)
-        }
-    }
-}
-
-// The same for the part of the subpath that matched a pattern key, or ".".
-fn match_not_exported(subpath: &[u8], matched: Match, dir: &[u8], result: &mut [u8]) -> Ending
-    ensures { λ r. ⌜ Finishes 4 (orDot (matchOf (now (subpath .entry)) matched)) (now (dir .entry)) [] r (now (result .entry)) (now (result .exit)) ⌝ }
-{
-    match matched {
-        Match::Part { start, len } => files::finish(
-            4,
-            text::part(subpath, start, len),
-            dir,
-            b"",
-            result,
-        ),
-        Match::Nothing => files::finish(4, b".", dir, b"", result),
-    }
-}
-
-// How an exports field that gives no path ends the lookup.
-fn exports_ending(
-    m: &[u8],
-    dir: &[u8],
-    subpath: &[u8],
-    outcome: Outcome,
-    target: &[u8],
-    key: Key,
-    matched: Match,
-    result: &mut [u8],
-    work: &mut [u8],
-) -> Way
-    requires { ⌜ (1024 ≤ length (now work)) × (length (manifestOf (now dir)) ≤ 2048) ⌝ }
-    ensures { λ r. ⌜ ((L : Listing Sees) (numbers list : List ℕ) (mark : Mark) (c : Context) → Done L (given (resolvedTo c (now (dir .entry)) (now (subpath .entry)) (outcomeIn (now (dir .entry)) (keyText (now (m .entry)) (now (subpath .entry)) key) (matchOf (now (subpath .entry)) matched) outcome (now (target .entry))))) (tapeOf (now (result .entry)) numbers list mark) (tapeOf (now (result .exit)) numbers list mark) (foundOf c (now (target .entry)) r)) ⌝ }
-{
-    match outcome {
-        Outcome::Found => Way::Next,
-        Outcome::Nothing => Way::Stopped(files::finish(4, subpath, dir, b"", result)),
-        Outcome::Empty => Way::Stopped(files::finish(2, target, b"", b"", result)),
-        Outcome::InvalidTarget => {
-            Way::Stopped(invalid_target(m, target, subpath, key, dir, result, work))
-        }
-        Outcome::NotExportedMatch => {
-            Way::Stopped(match_not_exported(subpath, matched, dir, result))
-        }
-        Outcome::NotExported => Way::Stopped(key_not_exported(m, subpath, key, dir, result, work)),
-        Outcome::ConfigMixed => Way::Stopped(manifest_ending(5, dir, result)),
-        Outcome::ConfigDirectory => Way::Stopped(manifest_ending(6, dir, result)),
-        Outcome::OverLong => Way::Stopped(files::refuse(42)),
-    }
-}
-
-// RESOLVE_ESM_MATCH(MATCH) with the query and the fragment of the targets that were tried.
-fn resolve_in_context(
-    l: &[u8],
-    s: &[u8],
-    spec: &[u8],
-    path: &[u8],
-    manifest: &[u8],
-    context: exports::Context,
-    result: &mut [u8],
-    nums: &mut [u32],
-    text: &mut [u8],
-    m: Mark,
-    work: &mut [u8],
-) -> Out
-    requires { ⌜ 1024 ≤ length (now work) ⌝ }
-    ensures { λ r. ⌜ Done (seenBy (settingsOf (now (s .entry))) (now (l .entry))) (never (RESOLVE-ESM-MATCH (settingsOf (now (s .entry))) (now (spec .entry)) (place (now (path .entry)) (partText (now (manifest .entry)) (context .query)) (partText (now (manifest .entry)) (context .fragment))))) (tapeOf (now (result .entry)) (now (nums .entry)) (now (text .entry)) m) (tapeOf (now (result .exit)) (now (nums .exit)) (now (text .exit)) (r .mark)) (stepOf (r .way)) ⌝ }
-{
-    let mut query = [0u8; 1024];
-    let q = exports::part_text(manifest, context.query, &mut query);
-    let mut fragment = [0u8; 1024];
-    let f = exports::part_text(manifest, context.fragment, &mut fragment);
-    resolve_esm_match(
-        l,
-        s,
-        spec,
-        path,
-        path::first(&query, q),
-        path::first(&fragment, f),
-        result,
-        nums,
-        text,
-        m,
-        work,
-    )
-}
-
-// PACKAGE_EXPORTS_RESOLVE for the exports field at a place, and RESOLVE_ESM_MATCH for the path that it gives.
-fn resolve_exports(
-    l: &[u8],
-    s: &[u8],
-    spec: &[u8],
-    dir: &[u8],
-    subpath: &[u8],
-    manifest: &[u8],
-    at: usize,
-    result: &mut [u8],
-    nums: &mut [u32],
-    text: &mut [u8],
-    m: Mark,
-    work: &mut [u8],
-) -> Out
-    requires { ⌜ (1024 ≤ length (now work)) × (length (manifestOf (now dir)) ≤ 2048) ⌝ }
-    ensures { λ r. ⌜ ((j : Json) → Stands 15 (drop at (now (manifest .entry))) j → Done (seenBy (settingsOf (now (s .entry))) (now (l .entry))) (matchExports (settingsOf (now (s .entry))) (now (spec .entry)) (now (dir .entry)) (now (subpath .entry)) j) (tapeOf (now (result .entry)) (now (nums .entry)) (now (text .entry)) m) (tapeOf (now (result .exit)) (now (nums .exit)) (now (text .exit)) (r .mark)) (stepOf (r .way))) ⌝ }
-{
-    let mut path = [0u8; 2048];
-    let r = exports::package_exports_resolve(manifest, at, s, dir, subpath, work, &mut path);
-    let key = r.key;
-    let matched = r.matched;
-    let a = r.answer;
-    let outcome = a.outcome;
-    let context = a.context;
-    let target = path::first(&path, a.len);
-    let way = exports_ending(
-        manifest,
-        dir,
-        subpath,
-        outcome,
-        target,
-        key,
-        matched,
-        result,
-        work,
-    );
-    let Way::Next = way else {
-        return Out { way, mark: m };
-    };
-    resolve_in_context(
-        l,
-        s,
-        spec,
-        target,
-        manifest,
-        context,
-        result,
-        nums,
-        text,
-        m,
-        work,
-    )
-}
-
-// LOAD_PACKAGE_EXPORTS, 4. to 6.: without an exports field it comes back.
-fn by_exports(
-    l: &[u8],
-    s: &[u8],
-    spec: &[u8],
-    dir: &[u8],
-    sub: &[u8],
-    manifest: &[u8],
-    root: usize,
-    result: &mut [u8],
-    nums: &mut [u32],
-    text: &mut [u8],
-    m: Mark,
-    work: &mut [u8],
-) -> Out
-    requires { ⌜ (1024 ≤ length (now work)) × (length (now sub) ≤ 2048) × (length (manifestOf (now dir)) ≤ 2048) ⌝ }
-    ensures { λ r. ⌜ ((j : Json) → Stands 16 (drop root (now (manifest .entry))) j → Done (seenBy (settingsOf (now (s .entry))) (now (l .entry))) (byExports (settingsOf (now (s .entry))) (now (spec .entry)) (now (dir .entry)) (now (sub .entry)) (manifestView (settingsOf (now (s .entry))) j)) (tapeOf (now (result .entry)) (now (nums .entry)) (now (text .entry)) m) (tapeOf (now (result .exit)) (now (nums .exit)) (now (text .exit)) (r .mark)) (stepOf (r .way))) ⌝ }
-{
-    let field = exports_field(manifest, root, s);
-    let Cursor::At(at) = field else {
-        return Out {
-            way: Way::Next,
-            mark: m,
-        };
-    };
-    let mut dotted = [0u8; 2049];
-    let n = specifier::dot_subpath(sub, &mut dotted);
-    resolve_exports(
-        l,
-        s,
-        spec,
-        dir,
-        path::first(&dotted, n),
-        manifest,
-        at,
-        result,
-        nums,
-        text,
-        m,
-        work,
-    )
-}
-
-// LOAD_PACKAGE_EXPORTS(X, DIR): a directory with no manifest of its own has no exports.
-fn load_package_exports(
-    l: &[u8],
-    s: &[u8],
-    spec: &[u8],
-    sub: &[u8],
-    dir: &[u8],
-    result: &mut [u8],
-    nums: &mut [u32],
-    text: &mut [u8],
-    m: Mark,
-    work: &mut [u8],
-) -> Out
-    requires { ⌜ (1024 ≤ length (now work)) × (length (now sub) ≤ 2048) ⌝ }
-    ensures { λ r. ⌜ Done (seenBy (settingsOf (now (s .entry))) (now (l .entry))) (LOAD-PACKAGE-EXPORTS (settingsOf (now (s .entry))) (now (spec .entry)) (now (sub .entry)) (now (dir .entry))) (tapeOf (now (result .entry)) (now (nums .entry)) (now (text .entry)) m) (tapeOf (now (result .exit)) (now (nums .exit)) (now (text .exit)) (r .mark)) (stepOf (r .way)) ⌝ }
-{
-    let found = own(l, dir, result, nums, text, m);
-    let mark = found.mark;
-    let way = found.way;
-    let Way::Next = way else {
-        return Out { way, mark };
-    };
-    let package = found.package;
-    let Package::At {
-        dir: _,
-        start,
-        end,
-        root,
-    } = package
-    else {
-        return Out {
-            way: Way::Next,
-            mark,
-        };
-    };
-    let manifest = listing::contents(l, start, end);
-    by_exports(
-        l,
-        s,
-        spec,
-        dir,
-        sub,
-        manifest,
-        root,
-        result,
-        nums,
-        text,
-        mark,
-        work,
-    )
-}
-
-// LOAD_PACKAGE_SELF(X, DIR), 3. to 6.: where X begins with the name of the scope's manifest.
-fn in_scope(
-    l: &[u8],
-    s: &[u8],
-    spec: &[u8],
-    dir: &[u8],
-    manifest: &[u8],
-    root: usize,
-    result: &mut [u8],
-    nums: &mut [u32],
-    text: &mut [u8],
-    m: Mark,
-    work: &mut [u8],
-) -> Out
-    requires { ⌜ (1024 ≤ length (now work)) × (length (now spec) ≤ 2048) × (length (manifestOf (now dir)) ≤ 2048) ⌝ }
-    ensures { λ r. ⌜ ((j : Json) → Stands 16 (drop root (now (manifest .entry))) j → Done (seenBy (settingsOf (now (s .entry))) (now (l .entry))) (inScope (settingsOf (now (s .entry))) (now (spec .entry)) (record { dir = now (dir .entry); manifest = manifestView (settingsOf (now (s .entry))) j })) (tapeOf (now (result .entry)) (now (nums .entry)) (now (text .entry)) m) (tapeOf (now (result .exit)) (now (nums .exit)) (now (text .exit)) (r .mark)) (stepOf (r .way))) ⌝ }
-{
-    let t = text_field(manifest, root, b"name", work);
-    let TextAt::Nothing = t else {
-        let name = package_json::text_at(manifest, work, t);
-        let stripped = specifier::strip_package_name(spec, name);
-        let Stripped::At(n) = stripped else {
-            return Out {
-                way: Way::Next,
-                mark: m,
-            };
-        };
-        let sub = specifier::tail(spec, n);
-        return by_exports(
-            l,
-            s,
-            spec,
-            dir,
-            sub,
-            manifest,
-            root,
-            result,
-            nums,
-            text,
-            m,
-            work,
-        );
-    };
-    Out {
-        way: Way::Next,
-        mark: m,
-    }
-}
-
-// LOAD_PACKAGE_SELF(X, DIR): without a scope it comes back.
-fn load_package_self(
-    l: &[u8],
-    s: &[u8],
-    start: &[u8],
-    spec: &[u8],
-    result: &mut [u8],
-    nums: &mut [u32],
-    text: &mut [u8],
-    m: Mark,
-    work: &mut [u8],
-) -> Out
-    requires { ⌜ (1024 ≤ length (now work)) × (length (now spec) ≤ 2048) ⌝ }
-    ensures { λ r. ⌜ Done (seenBy (settingsOf (now (s .entry))) (now (l .entry))) (LOAD-PACKAGE-SELF (settingsOf (now (s .entry))) (now (start .entry)) (now (spec .entry))) (tapeOf (now (result .entry)) (now (nums .entry)) (now (text .entry)) m) (tapeOf (now (result .exit)) (now (nums .exit)) (now (text .exit)) (r .mark)) (stepOf (r .way)) ⌝ }
-{
-    let found = scope(l, start, result, nums, text, m);
-    let mark = found.mark;
-    let way = found.way;
-    let Way::Next = way else {
-        return Out { way, mark };
-    };
-    let package = found.package;
-    let Package::At {
-        dir: n,
-        start: from,
-        end,
-        root,
-    } = package
-    else {
-        return Out {
-            way: Way::Next,
-            mark,
-        };
-    };
-    let manifest = listing::contents(l, from, end);
-    let dir = path::first(start, n);
-    in_scope(
-        l,
-        s,
-        spec,
-        dir,
-        manifest,
-        root,
-        result,
-        nums,
-        text,
-        mark,
-        work,
-    )
-}
+ghost use Rattle.files.specs.Meaning.{tapeOf, stepOf, numbers};
+ghost use Rattle.resolver.specs.Routines.{goingOf, fileFirst, directoryOrFile, inPackage, loadPackage, Refused};
 
 // Whether a routine came back, and what with.
 pub struct Went {
@@ -907,7 +82,18 @@ fn go_on(
     if !is_dir {
         return without_directory(l, name, sub, dir, nums, text, m);
     }
-    let out = load_package_exports(l, s, spec, sub, dir, result, nums, text, m, work);
+    let out = package_exports::load_package_exports(
+        l,
+        s,
+        spec,
+        sub,
+        dir,
+        result,
+        nums,
+        text,
+        m,
+        work,
+    );
     let way = out.way;
     let mark = out.mark;
     Went {
@@ -931,11 +117,23 @@ fn load_directory_or_file(
     requires { ⌜ 1024 ≤ length (now work) ⌝ }
     ensures { λ r. ⌜ Done (seenBy (settingsOf (now (s .entry))) (now (l .entry))) (directoryOrFile (settingsOf (now (s .entry))) (now (path .entry))) (tapeOf (now (result .entry)) (now (nums .entry)) (now (text .entry)) m) (tapeOf (now (result .exit)) (now (nums .exit)) (now (text .exit)) (r .mark)) (stepOf (r .way)) ⌝ }
 {
+    let none: &[u8] = b"";
     let asked = files::consult(l, path, nums, text, m);
     if asked.state == 1 {
-        return load_as_directory(l, s, path, b"", b"", result, nums, text, asked.mark, work);
+        return directory::load_as_directory(
+            l,
+            s,
+            path,
+            none,
+            none,
+            result,
+            nums,
+            text,
+            asked.mark,
+            work,
+        );
     }
-    files::load_as_file(l, s, path, b"", b"", result, nums, text, asked.mark)
+    files::load_as_file(l, s, path, none, none, result, nums, text, asked.mark)
 }
 
 // LOAD_NODE_MODULES(X, START), 2.b: a file at once only for a name with a subpath that does not end in "/".
@@ -946,6 +144,26 @@ fn file_first(spec: &[u8], name: &[u8]) -> bool
         return false;
     }
     !text::ends_with(spec, b"/")
+}
+
+fn load_file_first(
+    l: &[u8],
+    s: &[u8],
+    spec: &[u8],
+    name: &[u8],
+    path: &[u8],
+    result: &mut [u8],
+    nums: &mut [u32],
+    text: &mut [u8],
+    m: Mark,
+) -> Out
+    ensures { λ r. ⌜ Done (seenBy (settingsOf (now (s .entry))) (now (l .entry))) (fileFirst (settingsOf (now (s .entry))) (now (spec .entry)) (now (name .entry)) (now (path .entry))) (tapeOf (now (result .entry)) (now (nums .entry)) (now (text .entry)) m) (tapeOf (now (result .exit)) (now (nums .exit)) (now (text .exit)) (r .mark)) (stepOf (r .way)) ⌝ }
+{
+    if !file_first(spec, name) {
+        return files::next(m);
+    }
+    let none: &[u8] = b"";
+    files::load_as_file(l, s, path, none, none, result, nums, text, m)
 }
 
 fn load_as_file_or_directory(
@@ -966,16 +184,10 @@ fn load_as_file_or_directory(
     let p = path::normalize_with(modules, spec);
     let n = p.len;
     if n > 2048 {
-        return Out {
-            way: Way::Stopped(files::refuse(42)),
-            mark: m,
-        };
+        return files::refused(42, m);
     }
     let path = path::first(&p.bytes, n);
-    if !file_first(spec, name) {
-        return load_directory_or_file(l, s, path, result, nums, text, m, work);
-    }
-    let out = files::load_as_file(l, s, path, b"", b"", result, nums, text, m);
+    let out = load_file_first(l, s, spec, name, path, result, nums, text, m);
     let way = out.way;
     let Way::Next = way else {
         return out;
@@ -983,14 +195,15 @@ fn load_as_file_or_directory(
     load_directory_or_file(l, s, path, result, nums, text, out.mark, work)
 }
 
-// LOAD_NODE_MODULES(X, START), 2., in one node_modules directory.
-fn in_modules(
+// LOAD_NODE_MODULES(X, START), 2., at DIR/NAME in one node_modules directory.
+fn in_package(
     l: &[u8],
     s: &[u8],
     spec: &[u8],
     name: &[u8],
     sub: &[u8],
     modules: &[u8],
+    dir: &[u8],
     result: &mut [u8],
     nums: &mut [u32],
     text: &mut [u8],
@@ -998,17 +211,8 @@ fn in_modules(
     work: &mut [u8],
 ) -> Out
     requires { ⌜ (1024 ≤ length (now work)) × (length (now sub) ≤ 2048) ⌝ }
-    ensures { λ r. ⌜ Done (seenBy (settingsOf (now (s .entry))) (now (l .entry))) (inModules (settingsOf (now (s .entry))) (now (spec .entry)) (now (name .entry)) (now (sub .entry)) (now (modules .entry))) (tapeOf (now (result .entry)) (now (nums .entry)) (now (text .entry)) m) (tapeOf (now (result .exit)) (now (nums .exit)) (now (text .exit)) (r .mark)) (stepOf (r .way)) ⌝ }
+    ensures { λ r. ⌜ Done (seenBy (settingsOf (now (s .entry))) (now (l .entry))) (inPackage (settingsOf (now (s .entry))) (now (spec .entry)) (now (name .entry)) (now (sub .entry)) (now (modules .entry)) (now (dir .entry))) (tapeOf (now (result .entry)) (now (nums .entry)) (now (text .entry)) m) (tapeOf (now (result .exit)) (now (nums .exit)) (now (text .exit)) (r .mark)) (stepOf (r .way)) ⌝ }
 {
-    let p = path::normalize_with(modules, name);
-    let n = p.len;
-    if n > 2048 {
-        return Out {
-            way: Way::Stopped(files::refuse(42)),
-            mark: m,
-        };
-    }
-    let dir = path::first(&p.bytes, n);
     let asked = files::consult(l, dir, nums, text, m);
     let is_dir = asked.state == 1;
     let went = go_on(
@@ -1031,12 +235,47 @@ fn in_modules(
         return Out { way, mark };
     };
     if !went.more {
-        return Out {
-            way: Way::Next,
-            mark,
-        };
+        return files::next(mark);
     }
     load_as_file_or_directory(l, s, spec, name, modules, result, nums, text, mark, work)
+}
+
+// LOAD_NODE_MODULES(X, START), 2., in one node_modules directory.
+fn in_modules(
+    l: &[u8],
+    s: &[u8],
+    spec: &[u8],
+    name: &[u8],
+    sub: &[u8],
+    modules: &[u8],
+    result: &mut [u8],
+    nums: &mut [u32],
+    text: &mut [u8],
+    m: Mark,
+    work: &mut [u8],
+) -> Out
+    requires { ⌜ (1024 ≤ length (now work)) × (length (now sub) ≤ 2048) ⌝ }
+    ensures { λ r. ⌜ Done (seenBy (settingsOf (now (s .entry))) (now (l .entry))) (inModules (settingsOf (now (s .entry))) (now (spec .entry)) (now (name .entry)) (now (sub .entry)) (now (modules .entry))) (tapeOf (now (result .entry)) (now (nums .entry)) (now (text .entry)) m) (tapeOf (now (result .exit)) (now (nums .exit)) (now (text .exit)) (r .mark)) (stepOf (r .way)) ⌝ }
+{
+    let p = path::normalize_with(modules, name);
+    let n = p.len;
+    if n > 2048 {
+        return files::refused(42, m);
+    }
+    in_package(
+        l,
+        s,
+        spec,
+        name,
+        sub,
+        modules,
+        path::first(&p.bytes, n),
+        result,
+        nums,
+        text,
+        m,
+        work,
+    )
 }
 
 // The node_modules of one directory, if both are directories.
@@ -1059,27 +298,18 @@ fn in_directory(
     let asked = files::consult(l, dir, nums, text, m);
     let mark = asked.mark;
     if asked.state != 1 {
-        return Out {
-            way: Way::Next,
-            mark,
-        };
+        return files::next(mark);
     }
     let p = path::normalize_with(dir, b"node_modules");
     let n = p.len;
     if n > 2048 {
-        return Out {
-            way: Way::Stopped(files::refuse(42)),
-            mark,
-        };
+        return files::refused(42, mark);
     }
     let modules = path::first(&p.bytes, n);
     let asked = files::consult(l, modules, nums, text, mark);
     let mark = asked.mark;
     if asked.state != 1 {
-        return Out {
-            way: Way::Next,
-            mark,
-        };
+        return files::next(mark);
     }
     in_modules(
         l,
@@ -1117,10 +347,7 @@ fn load_node_modules(
     let mut names: usize = 0;
     let out = 'climb: loop {
         if names > 0 {
-            break 'climb Out {
-                way: Way::Next,
-                mark,
-            };
+            break 'climb files::next(mark);
         }
         let mut n = start.len();
         let mut left = files::depth(start) + 1;
@@ -1156,21 +383,43 @@ fn load_climbing(
     ensures { λ r. ⌜ Done (seenBy (settingsOf (now (s .entry))) (now (l .entry))) (perhaps (climbing (now (spec .entry))) (LOAD-NODE-MODULES (settingsOf (now (s .entry))) (now (start .entry)))) (tapeOf (now (result .entry)) (now (nums .entry)) (now (text .entry)) m) (tapeOf (now (result .exit)) (now (nums .exit)) (now (text .exit)) (r .mark)) (stepOf (r .way)) ⌝ }
 {
     if !specifier::may_climb(spec) {
-        return Out {
-            way: Way::Next,
-            mark: m,
-        };
+        return files::next(m);
     }
     let p = specifier::normalized(spec);
     let n = p.len;
     let normalized = path::first(&p.bytes, n);
     if !specifier::climbs(normalized) {
-        return Out {
-            way: Way::Next,
-            mark: m,
-        };
+        return files::next(m);
     }
     load_node_modules(l, s, start, normalized, result, nums, text, m, work)
+}
+
+// LOAD_PACKAGE_SELF, LOAD_NODE_MODULES, and once more under the normalised name.
+fn load_package(
+    l: &[u8],
+    s: &[u8],
+    start: &[u8],
+    spec: &[u8],
+    result: &mut [u8],
+    nums: &mut [u32],
+    text: &mut [u8],
+    m: Mark,
+    work: &mut [u8],
+) -> Out
+    requires { ⌜ (1024 ≤ length (now work)) × (length (now spec) ≤ 512) ⌝ }
+    ensures { λ r. ⌜ Done (seenBy (settingsOf (now (s .entry))) (now (l .entry))) (loadPackage (settingsOf (now (s .entry))) (now (start .entry)) (now (spec .entry))) (tapeOf (now (result .entry)) (now (nums .entry)) (now (text .entry)) m) (tapeOf (now (result .exit)) (now (nums .exit)) (now (text .exit)) (r .mark)) (stepOf (r .way)) ⌝ }
+{
+    let out = package_exports::load_package_self(l, s, start, spec, result, nums, text, m, work);
+    let way = out.way;
+    let Way::Next = way else {
+        return out;
+    };
+    let out = load_node_modules(l, s, start, spec, result, nums, text, out.mark, work);
+    let way = out.way;
+    let Way::Next = way else {
+        return out;
+    };
+    load_climbing(l, s, start, spec, result, nums, text, out.mark, work)
 }
 
 // How a lookup ended, and its list.
@@ -1193,36 +442,15 @@ fn walk(
     ensures { λ r. ⌜ Done (seenBy (settingsOf (now (s .entry))) (now (l .entry))) (lookup (settingsOf (now (s .entry))) (now (start .entry)) (now (spec .entry))) (tapeOf (now (result .entry)) (now (nums .entry)) (now (text .entry)) (record { count = 0; size = 0 })) (tapeOf (now (result .exit)) (now (nums .exit)) (now (text .exit)) (r .mark)) (stop (r .ending)) ⌝ }
 {
     let m = Mark { count: 0, size: 0 };
-    let out = load_package_self(l, s, start, spec, result, nums, text, m, work);
+    let out = load_package(l, s, start, spec, result, nums, text, m, work);
     let mark = out.mark;
     let way = out.way;
     match way {
-        Way::Next => {}
-        Way::Stopped(ending) => {
-            return Finished { ending, mark };
-        }
-    }
-    let out = load_node_modules(l, s, start, spec, result, nums, text, mark, work);
-    let mark = out.mark;
-    let way = out.way;
-    match way {
-        Way::Next => {}
-        Way::Stopped(ending) => {
-            return Finished { ending, mark };
-        }
-    }
-    let out = load_climbing(l, s, start, spec, result, nums, text, mark, work);
-    let mark = out.mark;
-    let way = out.way;
-    match way {
-        Way::Next => {}
-        Way::Stopped(ending) => {
-            return Finished { ending, mark };
-        }
-    }
-    Finished {
-        ending: files::finish(1, spec, b"", b"", result),
-        mark,
+        Way::Next => Finished {
+            ending: files::not_found(spec, result),
+            mark,
+        },
+        Way::Stopped(ending) => Finished { ending, mark },
     }
 }
 

@@ -16,6 +16,7 @@ use Rattle.files.proofs.load_as_file.Statement.{statement}
 use Rattle.files.proofs.load_as_file.Tie as tie
 use Rattle.files.proofs.load_as_file.Reads as reads
 use Rattle.files.proofs.load_as_file.Lts as lts
+use Rattle.files.proofs.next.Reads as next-reads
 use Rattle.files.proofs.try_extension.Reads as try-extension-reads
 use Rattle.files.proofs.try_file.Reads as try-file-reads
 use Rattle.settings.proofs.count.Reads as count-reads
@@ -69,9 +70,10 @@ load-as-file-spec =
       r .kept .1 .1 .1 .1 .1 .1 .1 .1 .0 ∙ l .inv .2,
       left-again _ _ _ _ _ _ _ _ _ _ (left-texts [] _ _ more) (l .inv .3) (onward _ (c .before .enum-told3 .given .1)) (r .ensures _),
     ))
+    (λ c κs. search needs)
     (λ c. search needs)
     (λ c. search needs)
     (λ c. search needs)
     (λ c.
-    file-then _ _ (c .before .before .before .before .before .before .before .before .before .before .before .before .try-file .ensures _) (onward _ (c .before .before .before .before .enum-told .given .1))
-    (left-end _ _ _ _ _ _ (none-left (textsOf (c .before .before .before .before .before .before .before .before .before .before .before .before .before .before .before .before .before .before .before .before .before .before .before .before .args .s .now) 1) (c .before .loop .i) (omega (arith, c .before .before .count .ensures, c .loop-test .left))) (c .before .loop .inv .3))))
+    rw (c .next .ensures) (file-then _ _ (c .before .before .before .before .before .before .before .before .before .before .before .before .before .try-file .ensures _) (onward _ (c .before .before .before .before .before .enum-told .given .1))
+    (left-end _ _ _ _ _ _ (none-left (textsOf (c .before .before .before .before .before .before .before .before .before .before .before .before .before .before .before .before .before .before .before .before .before .before .before .before .before .args .s .now) 1) (c .before .before .loop .i) (omega (arith, c .before .before .before .count .ensures, c .before .loop-test .left))) (c .before .before .loop .inv .3)))))

@@ -16,6 +16,7 @@ use Rattle.files.proofs.load_index.Statement.{statement}
 use Rattle.files.proofs.load_index.Tie as tie
 use Rattle.files.proofs.load_index.Reads as reads
 use Rattle.files.proofs.load_index.Lts as lts
+use Rattle.files.proofs.next.Reads as next-reads
 use Rattle.files.proofs.load_main_file.Reads as load-main-file-reads
 use Rattle.settings.proofs.count.Reads as count-reads
 use Rattle.settings.proofs.text.Reads as text-reads
@@ -60,7 +61,8 @@ load-index-spec =
       r .kept .1 .1 .1 .1 .1 .1 .1 .1 .0 ∙ l .inv .2,
       left-again _ _ _ _ _ _ _ _ _ _ (left-texts [] _ _ more) (l .inv .3) (onward _ (c .before .enum-told .given .1)) (rw (c .before .before .before .before .before .before .before .before .before .before .before .before .before .text .ensures) at (r .ensures)),
     ))
+    (λ c κs. search needs)
     (λ c. search needs)
     (λ c. search needs)
     (λ c. search needs)
-    (λ c. left-end _ _ _ _ _ _ (none-left (textsOf (c .before .before .before .before .before .before .before .before .before .before .before .args .s .now) 3) (c .before .loop .i) (omega (arith, c .before .before .count .ensures, c .loop-test .left))) (c .before .loop .inv .3)))
+    (λ c. rw (c .next .ensures) (left-end _ _ _ _ _ _ (none-left (textsOf (c .before .before .before .before .before .before .before .before .before .before .before .before .args .s .now) 3) (c .before .before .loop .i) (omega (arith, c .before .before .before .count .ensures, c .before .loop-test .left))) (c .before .before .loop .inv .3))))

@@ -5,6 +5,7 @@ use Rattle.files.proofs.try_file.Statement.{statement}
 use Rattle.files.proofs.try_file.Tie as tie
 use Rattle.files.proofs.try_file.Reads as reads
 use Rattle.files.proofs.try_file.Lts as lts
+use Rattle.files.proofs.next.Reads as next-reads
 use Rattle.files.proofs.consult.Reads as consult-reads
 use Rattle.files.proofs.finish.Reads as finish-reads
 
@@ -13,9 +14,10 @@ try-file-spec =
     tie.close
     (tie.spec
     (λ c κs. search needs)
+    (λ c κs. search needs)
     (λ c. search needs)
     (λ c. search needs)
-    (λ c. λ G. try-missing G _ _ _ _ _ (done-isFile G _ _ _ _ _ (c .before .before .before .before .before .before .before .consult .ensures .0) (c .before .before .before .before .before .before .before .consult .ensures .1 _)) (c .if1 .taken))
+    (λ c. λ G. rw (c .next .ensures) (try-missing G _ _ _ _ _ (done-isFile G _ _ _ _ _ (c .before .before .before .before .before .before .before .before .consult .ensures .0) (c .before .before .before .before .before .before .before .before .consult .ensures .1 _)) (c .before .if1 .taken)))
     (λ c κs. search needs)
     (λ c. search needs)
     (λ c. search needs)

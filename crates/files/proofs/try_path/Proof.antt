@@ -6,7 +6,7 @@ use Rattle.files.proofs.try_path.Tie as tie
 use Rattle.files.proofs.try_path.Reads as reads
 use Rattle.files.proofs.try_path.Lts as lts
 use Rattle.path.proofs.first.Reads as first-reads
-use Rattle.files.proofs.refuse.Reads as refuse-reads
+use Rattle.files.proofs.refused.Reads as refused-reads
 use Rattle.files.proofs.try_file.Reads as try-file-reads
 
 pub try-path-spec : {M : Type 1} → statement M
@@ -14,7 +14,7 @@ try-path-spec =
     tie.close
     (tie.spec
     (λ c κs. search needs)
-    (λ c. λ G. rw (c .refuse .ensures) (path-long G _ _ _ _ _ (c .before .if1 .taken)))
+    (λ c. λ G. rw (c .refused .ensures) (path-long G _ _ _ _ _ (c .before .if1 .taken)))
     (λ c κs. search needs)
     (λ c κs. search needs)
     (λ c. search needs)

@@ -5,7 +5,7 @@ use Rattle.resolver.proofs.go_on.Statement.{statement}
 use Rattle.resolver.proofs.go_on.Tie as tie
 use Rattle.resolver.proofs.go_on.Reads as reads
 use Rattle.resolver.proofs.go_on.Lts as lts
-use Rattle.resolver.proofs.load_package_exports.Reads as load-package-exports-reads
+use Rattle.package_exports.proofs.load_package_exports.Reads as load-package-exports-reads
 use Rattle.resolver.proofs.without_directory.Reads as without-directory-reads
 
 pub go-on-spec : {M : Type 1} → statement M

@@ -1,0 +1,35 @@
+use Rattle.directory.proofs.Manifests.{main-long, main-fits}
+use Rattle.files.proofs.Ways.{way-passed, way-onward}
+use borrow.Author.Needs.{needs}
+use Rattle.directory.proofs.load_main.Statement.{statement}
+use Rattle.directory.proofs.load_main.Tie as tie
+use Rattle.directory.proofs.load_main.Reads as reads
+use Rattle.directory.proofs.load_main.Lts as lts
+use Rattle.path.proofs.first.Reads as first-reads
+use Rattle.files.proofs.load_as_file.Reads as load-as-file-reads
+use Rattle.files.proofs.load_index.Reads as load-index-reads
+use Rattle.directory.proofs.main_path.Reads as main-path-reads
+use Rattle.files.proofs.refused.Reads as refused-reads
+
+pub load-main-spec : {M : Type 1} → statement M
+load-main-spec =
+    tie.close
+    (tie.spec
+    (λ c κs. search needs)
+    (λ c κs. search needs)
+    (λ c. rw (c .refused .ensures) (main-long _ _ _ _ _ _ _ (c .before .before .main-path .ensures) (c .before .if1 .taken)))
+    (λ c κs. search needs)
+    (λ c κs. search needs)
+    (λ c. search needs)
+    (λ c. search needs)
+    (λ c. search needs)
+    (λ c. search needs)
+    (λ c. search needs)
+    (λ c. main-fits _ _ _ _ _ _ _ (c .before .before .before .before .before .before .before .before .before .before .before .before .before .before .before .before .before .main-path .ensures) (c .before .before .before .before .before .before .before .before .before .before .before .before .before .before .before .before .if1 .left) (way-passed (c .before .before .before .before .before .before .before .before .load-as-file .result .way) _ (rw (c .before .before .before .before .before .before .before .before .before .before .before .before .first .ensures) at (c .before .before .before .before .before .before .before .before .load-as-file .ensures)) (c .before .match .keys2)))
+    (λ c κs. search needs)
+    (λ c. search needs)
+    (λ c. search needs)
+    (λ c. search needs)
+    (λ c.
+    let f = c .before .before .before .before .before .before .before .before .before .before .before .before .before .before .before .before .before .before .before .before .before .before .first .ensures in
+    main-fits _ _ _ _ _ _ _ (c .before .before .before .before .before .before .before .before .before .before .before .before .before .before .before .before .before .before .before .before .before .before .before .before .before .before .before .main-path .ensures) (c .before .before .before .before .before .before .before .before .before .before .before .before .before .before .before .before .before .before .before .before .before .before .before .before .before .before .if1 .left) (way-onward (c .before .before .before .before .before .before .before .before .before .before .before .before .before .before .before .before .before .before .load-as-file .result .way) _ (rw f at (c .before .before .before .before .before .before .before .before .before .before .before .before .before .before .before .before .before .before .load-as-file .ensures)) (c .before .before .before .before .before .before .before .before .before .before .enum-told .given .1) (rw f at (c .before .before .before .before .before .before .load-index .ensures)))))
