@@ -13,12 +13,12 @@ use lib.Dec.{eqb, leb}
 use lib.ListN.{length, take, drop, getD, length-take}
 use lib.Seq.{take-all}
 use Rattle.definition.specs.Text.{Text, text, if_then_else_, equal, startsWith}
-use Rattle.definition.specs.TextLaws.{equal-refl}
-use Rattle.definition.specs.TextSteps.{equal-lengths, overwrite-nil}
+use Rattle.laws.specs.TextLaws.{equal-refl}
+use Rattle.laws.specs.TextSteps.{equal-lengths, overwrite-nil}
 use Rattle.definition.specs.Path.{Built, built, tooLong, andPath, limited, normalizeWith, manifestOf, dirs}
 use Rattle.definition.specs.Json.{Json, scalar, str, arr, obj, Read, got, fault, Fault, malformed, beyond, twice, skipSpace, quoted, replaceBom, parse}
 use Rattle.definition.specs.JsonAt.{rooted, faulty, check, checkedBy, getAt, Told, toldAt, textAt}
-use Rattle.definition.specs.JsonAtLaws.{Stands, Shape, text-shape, array-shape, object-shape, scalar-shape, shape, Finds, finds, finds-none, root-here, get-here, text-here, text-told}
+use Rattle.laws.specs.JsonAtLaws.{Stands, Shape, text-shape, array-shape, object-shape, scalar-shape, shape, Finds, finds, finds-none, root-here, get-here, text-here, text-told}
 use Rattle.definition.specs.Exports.{JsonError, failureNumber, failureTexts}
 use Rattle.definition.specs.Settings.{Settings}
 use Rattle.definition.specs.Ask.{State, Listing, Step, go, stop, Ask, ret, end, ask, read, stateOf, contentsOf, answer, _>>=_, _>>_}
@@ -30,18 +30,18 @@ use Rattle.json_text.specs.declared.TextAt.the-variants.{Manifest as InManifest
 use Rattle.json_text.specs.Texts.{textOf, orEmpty}
 use Rattle.json_text.proofs.TextAt as textAts
 use Rattle.path.specs.Meaning.{pathAt}
-use Rattle.files.specs.declared.Ending.{Ending}
-use Rattle.files.specs.declared.Mark.{Mark}
-use Rattle.files.specs.declared.Way.{Way}
-use Rattle.files.specs.declared.Way.the-variants.{Next, Stopped}
+use Rattle.consults.specs.declared.Ending.{Ending}
+use Rattle.consults.specs.declared.Mark.{Mark}
+use Rattle.consults.specs.declared.Way.{Way}
+use Rattle.consults.specs.declared.Way.the-variants.{Next, Stopped}
 use Rattle.directory.specs.declared.Package.{Package}
 use Rattle.directory.specs.declared.Package.the-variants.{Nowhere, At}
-use Rattle.files.specs.Tape.{Tape, Done, endingOf, numbered, done-ret, done-bind, done-stop}
-use Rattle.files.specs.Meaning.{tapeOf, place, stepOf, numbers, Sees, manifestIn, Sought, orFurther, seek}
+use Rattle.consults.specs.Tape.{Tape, Done, endingOf, numbered, done-ret, done-bind, done-stop}
+use Rattle.consults.specs.Meaning.{tapeOf, place, stepOf, numbers, Sees, manifestIn, Sought, orFurther, seek}
 use Rattle.directory.specs.Routines.{Finishes, FinishesIn, judged, jsonOf, scopeOf, ownOf, Fits, toldIn, mainField, byManifest}
-use Rattle.files.proofs.Way as ways
-use Rattle.files.proofs.Steps.{done-finish, done-refuse, ends-failed, made-fits, made-long}
-use Rattle.files.proofs.Climbs.{manifest-built}
+use Rattle.consults.proofs.Way as ways
+use Rattle.consults.proofs.Steps.{done-finish, done-refuse, ends-failed, made-fits, made-long}
+use Rattle.consults.proofs.Climbs.{manifest-built}
 
 -- the end that names a manifest: its path was built, or it is over the limit
 module _ (k : ℕ) (p : Built) (bytes : Text) (n : ℕ) (e : pathAt bytes n ≡ p) (r : Ending) (before : Text) where

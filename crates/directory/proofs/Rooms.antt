@@ -7,9 +7,9 @@ use native.Mathlib.Omega.{arith}
 use borrow.Author.Tests.{le-leb, lt-leb}
 use Rattle.definition.specs.Ask.{Listing, Step, stop, Ask}
 use Rattle.definition.specs.Manifest.{End}
-use Rattle.files.specs.declared.Ending.{Ending}
-use Rattle.files.specs.Tape.{Tape, Done}
-use Rattle.files.specs.Meaning.{numbers}
+use Rattle.consults.specs.declared.Ending.{Ending}
+use Rattle.consults.specs.Tape.{Tape, Done}
+use Rattle.consults.specs.Meaning.{numbers}
 use Rattle.directory.specs.Refusals.{DoneUnless, done, refused, roomIn}
 
 module _ {M A : Type 0} {L : Listing M} {t : Ask End M A} {s : Tape} where

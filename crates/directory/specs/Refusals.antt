@@ -7,9 +7,9 @@ use lib.Dec.{leb}
 use Rattle.definition.specs.Text.{if_then_else_}
 use Rattle.definition.specs.Ask.{Listing, Step, stop, Ask}
 use Rattle.definition.specs.Manifest.{End}
-use Rattle.files.specs.declared.Ending.{Ending}
-use Rattle.files.specs.Tape.{Tape, Done}
-use Rattle.files.specs.Meaning.{numbers}
+use Rattle.consults.specs.declared.Ending.{Ending}
+use Rattle.consults.specs.Tape.{Tape, Done}
+use Rattle.consults.specs.Meaning.{numbers}
 
 -- over a listing the routine was done; or there was a refusal, and the tape is as it was
 pub data DoneUnless {M A : Type 0} (L : Listing M) (t : Ask End M A) (s : Tape) : Option ℕ → Tape → Step Ending A → Type 0 where

@@ -8,20 +8,20 @@ use Rattle.definition.specs.Text.{Text, overwrite}
 use Rattle.definition.specs.Path.{Built, built, tooLong, manifestOf}
 use Rattle.definition.specs.Json.{Json, scalar, Read, got, fault, parse}
 use Rattle.definition.specs.JsonAt.{Told, textAt}
-use Rattle.definition.specs.JsonAtLaws.{Stands}
-use Rattle.definition.specs.ListingSteps.{part}
+use Rattle.laws.specs.JsonAtLaws.{Stands}
+use Rattle.laws.specs.ListingSteps.{part}
 use Rattle.definition.specs.Settings.{Settings}
 use Rattle.definition.specs.Ask.{Step, go, stop, Ask, ret, _>>=_, _>>_}
 use Rattle.definition.specs.Manifest as definition
 use Rattle.definition.specs.Manifest.{Place, manifestView, ifText, field}
 use Rattle.definition.specs.Walk as walk
 use Rattle.definition.specs.Walk.{Look, perhaps, forEach, isDir, when, sound, loadMain, LOAD-INDEX, LOAD-AS-DIRECTORY}
-use Rattle.files.specs.declared.Ending.{Ending}
-use Rattle.files.specs.declared.Way.{Way}
-use Rattle.files.specs.declared.Way.the-variants.{Next, Stopped}
+use Rattle.consults.specs.declared.Ending.{Ending}
+use Rattle.consults.specs.declared.Way.{Way}
+use Rattle.consults.specs.declared.Way.the-variants.{Next, Stopped}
 use Rattle.directory.specs.declared.Package.{Package}
 use Rattle.directory.specs.declared.Package.the-variants.{Nowhere, At}
-use Rattle.files.specs.Meaning.{numbers, Sought}
+use Rattle.consults.specs.Meaning.{numbers, Sought}
 
 -- an ending with a number and three texts, which were written to the result text
 pub record Finishes (n : ℕ) (a b c : Text) (r : Ending) (before after : Text) : Type 0 where

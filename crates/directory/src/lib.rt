@@ -1,9 +1,9 @@
 // A package's manifest, read and judged, and LOAD_AS_DIRECTORY of lib.rs, over a lent listing.
-use files::Ending;
-use files::Mark;
-use files::Near;
-use files::Out;
-use files::Way;
+use consults::Ending;
+use consults::Mark;
+use consults::Near;
+use consults::Out;
+use consults::Way;
 use package_json::Cursor;
 use package_json::TextAt;
 use path::PathBuf;
@@ -15,9 +15,9 @@ ghost use lib.ListN.{length, getD, drop, take};
 ghost use Rattle.definition.specs.Path.{dirs, manifestOf, limited, normalizeWith};
 ghost use Rattle.definition.specs.Json.{Json};
 ghost use Rattle.definition.specs.JsonAt.{getAt};
-ghost use Rattle.definition.specs.JsonAtLaws.{Stands};
+ghost use Rattle.laws.specs.JsonAtLaws.{Stands};
 ghost use Rattle.definition.specs.Ask.{Listing, stop};
-ghost use Rattle.definition.specs.ListingSteps.{part};
+ghost use Rattle.laws.specs.ListingSteps.{part};
 ghost use Rattle.definition.specs.Settings.{Settings, textsOf, settingsOf};
 ghost use Rattle.definition.specs.Manifest.{ifText, field, view};
 ghost use Rattle.definition.specs.Called.{seenBy};
@@ -25,8 +25,8 @@ ghost use Rattle.definition.specs.Walk.{perhaps, forEach, sound, mainPath, near
 ghost use Rattle.path.specs.Meaning.{pathOf};
 ghost use Rattle.json_text.specs.Scanned.{faultOf};
 ghost use Rattle.json_text.specs.Texts.{told};
-ghost use Rattle.files.specs.Tape.{Done};
-ghost use Rattle.files.specs.Meaning.{tapeOf, stepOf, place, Sees};
+ghost use Rattle.consults.specs.Tape.{Done};
+ghost use Rattle.consults.specs.Meaning.{tapeOf, stepOf, place, Sees};
 ghost use Rattle.directory.specs.Routines.{FinishesIn, judged, scopeOf, ownOf, Held, Fits, toldIn, mainField, byManifest, ifDirectory};
 ghost use Rattle.directory.specs.Refusals.{roomIn, DoneUnless};
 
@@ -37,9 +37,9 @@ pub fn manifest_ending(number: u8, dir: &[u8], result: &mut [u8]) -> Ending
     let p = PathBuf::from(dir).push_manifest();
     let n = p.len;
     if n > 2048 {
-        return files::refuse(42);
+        return consults::refuse(42);
     }
-    files::finish(number, path::first(&p.bytes, n), b"", b"", result)
+    consults::finish(number, path::first(&p.bytes, n), b"", b"", result)
 }
 
 // A fault of a manifest ends the lookup; of one that is no JSON the path is told.
@@ -49,8 +49,8 @@ fn fault_ending(f: package_json::Fault, dir: &[u8], result: &mut [u8]) -> Ending
 {
     match f {
         package_json::Fault::Malformed => manifest_ending(7, dir, result),
-        package_json::Fault::Beyond => files::refuse(40),
-        package_json::Fault::Twice => files::refuse(41),
+        package_json::Fault::Beyond => consults::refuse(40),
+        package_json::Fault::Twice => consults::refuse(41),
     }
 }
 
@@ -117,7 +117,7 @@ pub fn scope(
     ensures done { λ r. ⌜ ((G : Settings) → Done (seenBy G (now (l .entry))) (nearest G (dirs (now (dir .entry)))) (tapeOf (now (result .entry)) (now (nums .entry)) (now (text .entry)) m) (tapeOf (now (result .exit)) (now (nums .exit)) (now (text .exit)) (r .mark)) (scopeOf G (now (l .entry)) (now (dir .entry)) (r .way) (r .package))) ⌝ }
     ensures held { λ r. ⌜ Held (now (l .entry)) (r .package) ⌝ }
 {
-    let nearest = files::find_package_json(l, dir, nums, text, m);
+    let nearest = consults::find_package_json(l, dir, nums, text, m);
     let mark = nearest.mark;
     let near = nearest.near;
     match near {
@@ -128,7 +128,7 @@ pub fn scope(
         },
         Near::At { dir: n, start, end } => judge(l, dir, n, start, end, result, mark),
         Near::TooLong => Scoped {
-            way: Way::Stopped(files::refuse(42)),
+            way: Way::Stopped(consults::refuse(42)),
             package: Package::Nowhere,
             mark,
         },
@@ -213,7 +213,7 @@ fn load_main<'a>(
     let p = main_path(path, main);
     let n = p.len;
     if n > 2048 {
-        return files::refused(42, m);
+        return consults::refused(42, m);
     }
     let q = path::first(&p.bytes, n);
     let out = files::load_as_file(l, s, q, query, fragment, result, nums, text, m);
@@ -248,7 +248,7 @@ fn load_main_field<'a>(
         let main = package_json::text_at(manifest, work, t);
         return load_main(l, s, main, path, query, fragment, result, nums, text, m);
     };
-    files::next(m)
+    consults::next(m)
 }
 
 // LOAD_AS_DIRECTORY(X), 1.a to e, for each main field of the settings.
@@ -295,7 +295,7 @@ fn load_main_fields<'a>(
         mark = out.mark;
         i += 1;
     }
-    files::next(mark)
+    consults::next(mark)
 }
 
 // LOAD_AS_DIRECTORY(X) with a manifest: 1.a to e, and then LOAD_INDEX(X).
@@ -353,7 +353,7 @@ pub fn load_as_directory<'a>(
     ensures { λ r. ⌜ DoneUnless (seenBy (settingsOf (now (s .entry))) (now (l .entry))) (LOAD-AS-DIRECTORY (settingsOf (now (s .entry))) (place (now (path .entry)) (now (query .entry)) (now (fragment .entry)))) (tapeOf (now (result .entry)) (now (nums .entry)) (now (text .entry)) m) (roomIn (length (now (work .entry)))) (tapeOf (now (result .exit)) (now (nums .exit)) (now (text .exit)) (r .mark)) (stepOf (r .way)) ⌝ }
 {
     if work.len() < 1024 {
-        return files::refused(25, m);
+        return consults::refused(25, m);
     }
     let found = own(l, path, result, nums, text, m);
     let mark = found.mark;
@@ -404,12 +404,12 @@ pub fn load_if_directory<'a>(
     ensures { λ r. ⌜ DoneUnless (seenBy (settingsOf (now (s .entry))) (now (l .entry))) (ifDirectory (settingsOf (now (s .entry))) (place (now (path .entry)) (now (query .entry)) (now (fragment .entry)))) (tapeOf (now (result .entry)) (now (nums .entry)) (now (text .entry)) m) (roomIn (length (now (work .entry)))) (tapeOf (now (result .exit)) (now (nums .exit)) (now (text .exit)) (r .mark)) (stepOf (r .way)) ⌝ }
 {
     if work.len() < 1024 {
-        return files::refused(25, m);
+        return consults::refused(25, m);
     }
-    let asked = files::consult(l, path, nums, text, m);
+    let asked = consults::consult(l, path, nums, text, m);
     let mark = asked.mark;
     if asked.state != 1 {
-        return files::next(mark);
+        return consults::next(mark);
     }
     load_as_directory(l, s, path, query, fragment, result, nums, text, mark, work)
 }

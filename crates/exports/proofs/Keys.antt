@@ -11,8 +11,8 @@ use lib.Seq.{take-all, take-append-seam}
 use lib.Dec.{eqb, leb, isLe, isEq}
 use borrow.Author.Tests.{eqb-true, eqb-false, leb-true, leb-false, le-leb, lt-leb, ne-eqb, eq-eqb}
 use Rattle.definition.specs.Text.{text, if_then_else_, star, equal, startsWith, endsWith, contains, before, after}
-use Rattle.definition.specs.TextLaws.{and-true, startsWith-length, before-after}
-use Rattle.definition.specs.PathSteps.{not-contains}
+use Rattle.laws.specs.TextLaws.{and-true, startsWith-length, before-after}
+use Rattle.laws.specs.PathSteps.{not-contains}
 use Rattle.definition.specs.Exports.{baseLength, greaterFirst, PATTERN-KEY-COMPARE, isSubpathKey, starMatch, patternMatch}
 use Rattle.exports.specs.declared.Rank.{Rank}
 use Rattle.exports.specs.Keys.{rankOf}

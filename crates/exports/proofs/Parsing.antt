@@ -8,7 +8,7 @@ use lib.ListN.{length, take, drop, getD, length-append}
 use lib.Dec.{eqb, ltb}
 use borrow.Author.Tests.{lt-ltb}
 use Rattle.definition.specs.Text.{text, if_then_else_, hash, question, containsText, startsWith, before, from, utf8, trail}
-use Rattle.definition.specs.TextSteps.{before-inside}
+use Rattle.laws.specs.TextSteps.{before-inside}
 use Rattle.definition.specs.Path.{Built, limited}
 use Rattle.definition.specs.Specifier.{Specifier, parsed, emptySpecifier, beforeFragment, body, unescape, pathBefore, orEmpty, parseSpecifier}
 use Rattle.definition.specs.Exports as exports

@@ -12,9 +12,9 @@ use Rattle.definition.specs.Text.{if_then_else_, equal}
 use Rattle.definition.specs.Json.{Json, scalar, str, arr, obj, Elements, noElement, element, Members, noMember, member, Read, got, fault, value, valueBy, quoted}
 use Rattle.definition.specs.JsonAt as json
 use Rattle.definition.specs.JsonAt.{aScalar, aString, anArray, anObject, kindAt, thenAt, firstMember, firstElement, nextElement, memberValue, nextMember, getAt, findMember, isText, nameIs, textAt, toldAt}
-use Rattle.definition.specs.JsonAtLaws as at
-use Rattle.definition.specs.JsonAtLaws.{members-there, no-members, elements-there, no-elements, text-shape, array-shape, object-shape, scalar-shape, finds, finds-none}
-use Rattle.definition.specs.JsonSoundLaws.{quoted-sound}
+use Rattle.laws.specs.JsonAtLaws as at
+use Rattle.laws.specs.JsonAtLaws.{members-there, no-members, elements-there, no-elements, text-shape, array-shape, object-shape, scalar-shape, finds, finds-none}
+use Rattle.laws.specs.JsonSoundLaws.{quoted-sound}
 use Rattle.definition.specs.Exports.{get, entries}
 use Rattle.package_json.specs.declared.Cursor.{Cursor}
 use Rattle.package_json.specs.declared.Cursor.the-variants.{At, Nothing}

@@ -5,7 +5,7 @@ use mathlib.Core.List.{List}
 use mathlib.Core.Option.{Option, none, some}
 use lib.ListN.{drop}
 use Rattle.definition.specs.Json.{Json, scalar, str, arr, obj, Elements, noElement, Members, noMember}
-use Rattle.definition.specs.JsonAtLaws as at
+use Rattle.laws.specs.JsonAtLaws as at
 use Rattle.package_json.specs.declared.Cursor.{Cursor}
 use Rattle.package_json.specs.declared.Cursor.the-variants.{At, Nothing}
 use Rattle.exports.specs.declared.Kind.{Kind}

@@ -12,7 +12,7 @@ ghost use Rattle.definition.specs.Text.{text, star, equal, endsWith, isOneOf, r
 ghost use Rattle.definition.specs.Settings.{textsOf, settingsOf};
 ghost use mathlib.Core.Option.{Option, none};
 ghost use Rattle.definition.specs.Json.{Json, str, arr, obj, Members, member, Elements, element, got, quoted};
-ghost use Rattle.definition.specs.JsonAtLaws as values;
+ghost use Rattle.laws.specs.JsonAtLaws as values;
 ghost use Rattle.exports.specs.Places.{Stands, MembersAt, ElementsAt, MembersFrom, ElementsFrom, kindOf, Finds};
 ghost use Rattle.definition.specs.Path.{limited};
 ghost use Rattle.path.specs.Meaning.{pathOf};

@@ -15,10 +15,10 @@ use Rattle.definition.specs.Settings.{Settings}
 use Rattle.definition.specs.Ask.{Listing, Step, go, stop, _>>=_, _>>_}
 use Rattle.definition.specs.Manifest.{Place}
 use Rattle.definition.specs.Walk.{Look, forEach, at, tryFile, tryExtension, LOAD-AS-FILE, tryIndex}
-use Rattle.files.specs.declared.Ending.{Ending}
-use Rattle.files.specs.Tape.{Tape, Done, done-bind, done-stop}
-use Rattle.files.specs.Loop.{Left, left-start, left-again, left-stop, left-end}
-use Rattle.files.specs.Meaning.{Sees, place, tryPath}
+use Rattle.consults.specs.declared.Ending.{Ending}
+use Rattle.consults.specs.Tape.{Tape, Done, done-bind, done-stop}
+use Rattle.consults.specs.Loop.{Left, left-start, left-again, left-stop, left-end}
+use Rattle.consults.specs.Meaning.{Sees, place, tryPath}
 
 -- a longer text is over the limit where the shorter is
 limited-longer : (p q : Text) → length p ≤ length q → andPath (limited p) (λ _. limited q) ≡ limited q

@@ -1,5 +1,1 @@
-pub mod Laws
-pub mod Steps
-pub mod Climbs
 pub mod Files
-pub mod Ways

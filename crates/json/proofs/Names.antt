@@ -9,9 +9,9 @@ use lib.Seq.{getD-set-same, getD-set-other}
 use lib.Dec.{eqb, ltb}
 use borrow.Author.Tests.{eq-eqb, ne-eqb, lt-ltb, le-ltb, eqb-true, eqb-false, ltb-true, ltb-false}
 use Rattle.definition.specs.Text.{equal, isOneOf, smaller}
-use Rattle.definition.specs.TextLaws.{equal-true, equal-refl}
-use Rattle.definition.specs.ListingOrder.{smaller-trans, smaller-unequal}
-use Rattle.definition.specs.JsonStringLaws.{by-test}
+use Rattle.laws.specs.TextLaws.{equal-true, equal-refl}
+use Rattle.laws.specs.ListingOrder.{smaller-trans, smaller-unequal}
+use Rattle.laws.specs.JsonStringLaws.{by-test}
 use Rattle.definition.specs.Json as json
 use Rattle.definition.specs.Json.{got, fault, skipSpace, quoted, memberName}
 use Rattle.json_text.specs.Scanned.{faultOf, Reads}

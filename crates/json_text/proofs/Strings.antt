@@ -9,7 +9,7 @@ use lib.Seq.{drop-drop}
 use lib.Dec.{eqb, ltb, leb}
 use borrow.Author.Tests.{eq-eqb, ne-eqb, eqb-true, eqb-false, lt-ltb, le-ltb, lt-leb, le-leb, leb-true, leb-false}
 use Rattle.definition.specs.Text.{if_then_else_, within, equal}
-use Rattle.definition.specs.Local.{andThen-both}
+use Rattle.laws.specs.Local.{andThen-both}
 use Rattle.definition.specs.JsonAt.{hasEscape}
 use Rattle.definition.specs.Json as json
 use Rattle.definition.specs.Json.{got, fault, malformed, beyond, andThen, between, sequence, bad, gives, plainByte, sequenceByte, step, goOn, string, quoted}

@@ -11,7 +11,7 @@ use borrow.Author.Tests.{le-leb, lt-leb}
 use Rattle.definition.specs.Text.{equal, overwrite}
 use Rattle.definition.specs.Json.{Read, got, fault, Fault, quoted}
 use Rattle.definition.specs.JsonAt.{isText, nameIs, hasEscape, toldAt, textAt}
-use Rattle.definition.specs.JsonAtLaws.{text-told}
+use Rattle.laws.specs.JsonAtLaws.{text-told}
 use Rattle.json_text.specs.Scanned.{Reads}
 use Rattle.json_text.specs.Texts.{textOf, told, orEmpty}
 use Rattle.json_text.specs.declared.TextAt.{TextAt}

@@ -6,8 +6,8 @@ use Prim.Native.Nat.{ℕ, _+_, _≤_}
 use lib.ListN.{length}
 use Rattle.definition.specs.Text.{Text, if_then_else_, smaller}
 use Rattle.definition.specs.Listing.{Entry, noEntry, directoryEntry, fileEntry, Row, entryAt, noDirectoryManifest, passes30, passes31, passes32}
-use Rattle.definition.specs.ListingSteps.{part, row, rowBy, rowsAt}
-use Rattle.definition.specs.ListingOrder.{Rise, Going, inOrder, sized, shallow}
+use Rattle.laws.specs.ListingSteps.{part, row, rowBy, rowsAt}
+use Rattle.laws.specs.ListingOrder.{Rise, Going, inOrder, sized, shallow}
 use Rattle.listing.specs.declared.Found.{Found}
 use Rattle.listing.specs.declared.Found.the-variants.{Absent, Directory, File}
 use Rattle.listing.specs.declared.Place.{Place}

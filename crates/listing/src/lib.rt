@@ -6,9 +6,9 @@ ghost use lib.ListN.{length, drop, getD};
 ghost use lib.Dec.{leb};
 ghost use Rattle.definition.specs.Text.{equal, all};
 ghost use Rattle.definition.specs.Listing.{number32, entryCount, contentsLength, rows, isDirectoryOf, sizesFit, isManifest, isComponent, firstIsRoot};
-ghost use Rattle.definition.specs.ListingSteps.{part, rowBy, Standing, lengthsAt};
-ghost use Rattle.definition.specs.ListingNameLaws.{isName, Plain};
-ghost use Rattle.definition.specs.ListingOrder.{Shared, Remarked, markOf, inOrder, sized};
+ghost use Rattle.laws.specs.ListingSteps.{part, rowBy, Standing, lengthsAt};
+ghost use Rattle.laws.specs.ListingNameLaws.{isName, Plain};
+ghost use Rattle.laws.specs.ListingOrder.{Shared, Remarked, markOf, inOrder, sized};
 ghost use Rattle.listing.specs.Meaning.{Searched, Placed, Parts, Stepped, ruleOf, verdict};
 
 fn wide(x: u8) -> usize

@@ -11,11 +11,12 @@ use Rattle.definition.specs.Text.{Text, if_then_else_}
 use Rattle.definition.specs.Ask.{Consult}
 use Rattle.definition.specs.Manifest.{End, endNumber, endTexts, isAnswer}
 use Rattle.definition.specs.Called.{Question, Rooms, Left, endOf, listOf, refusalOf, padded, joined, paths, listNumbers, zeros, written, delivered, unlessRefused, called}
-use Rattle.definition.specs.WalkBounds.{EndFits, end-fits}
-use Rattle.files.specs.declared.Ending.{Ending}
-use Rattle.lookup.specs.declared.Answer.{Answer}
-use Rattle.lookup.specs.Meaning.{numberOf, lengthsOf, leftBy, exported, inThree}
-use Rattle.lookup.specs.Walked.{textLength}
+use Rattle.laws.specs.WalkBounds.{EndFits, end-fits}
+use Rattle.consults.specs.declared.Ending.{Ending}
+use Rattle.answer.specs.declared.Answer.{Answer}
+use Rattle.lookup.specs.Meaning.{exported, inThree}
+use Rattle.answer.specs.Meaning.{numberOf, lengthsOf, leftBy}
+use Rattle.answer.specs.Walked.{textLength}
 use Rattle.lookup.proofs.Walking.{all-passed}
 
 abbrev sum : List ℕ → ℕ

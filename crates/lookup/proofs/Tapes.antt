@@ -9,12 +9,12 @@ use lib.Dec.{ltb}
 use lib.ListN.{length, set, length-append}
 use lib.Seq.{set-out}
 use Rattle.definition.specs.Text.{overwrite}
-use Rattle.definition.specs.TextSteps.{overwrite-here, overwrite-nil, overwrite-past}
+use Rattle.laws.specs.TextSteps.{overwrite-here, overwrite-nil, overwrite-past}
 use Rattle.definition.specs.Ask.{Consult}
 use Rattle.definition.specs.Called.{joined, paths}
-use Rattle.files.specs.Tape.{Tape, most, put, written}
-use Rattle.files.proofs.Laws.{overwrite-append}
-use Rattle.lookup.specs.Walked.{packedOf}
+use Rattle.consults.specs.Tape.{Tape, most, put, written}
+use Rattle.consults.proofs.Laws.{overwrite-append}
+use Rattle.answer.specs.Walked.{packedOf}
 
 -- one number at a place, and more behind it
 overwrite-set : (at x : ℕ) (t d : List ℕ) → overwrite (suc at) t (set d at x) ≡ overwrite at (x ∷ t) d

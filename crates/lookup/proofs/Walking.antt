@@ -10,7 +10,7 @@ use lib.Dec.{leb}
 use lib.ListN.{length, take, drop, length-take, length-map}
 use lib.Seq.{take-all, take-at, drop-at}
 use Rattle.definition.specs.Text.{overwrite, contains, isUtf8}
-use Rattle.definition.specs.TextLaws.{and-true}
+use Rattle.laws.specs.TextLaws.{and-true}
 use Rattle.definition.specs.Specifier.{isBare, isSpecifier}
 use Rattle.definition.specs.Listing.{accepted, isDirectoryOf, passes30, passes31, passes32}
 use Rattle.definition.specs.Settings.{settingsOf, passes24}
@@ -18,17 +18,17 @@ use Rattle.definition.specs.Ask.{Step, go, stop, answer, log}
 use Rattle.definition.specs.Manifest.{End, endTexts}
 use Rattle.definition.specs.Walk.{lookup, ending}
 use Rattle.definition.specs.Called.{Question, Rooms, check, refusalOf, seenBy, endOf, listOf, joined, paths, Left, delivered, unlessRefused, called}
-use Rattle.definition.specs.WalkBounds.{all-fit, end-fits, text-short}
-use Rattle.definition.specs.Theorems.{longest-list}
-use Rattle.files.specs.Tape.{Tape, written, ended, after, endingOf, numbered, Done}
-use Rattle.files.specs.Meaning.{tapeOf}
-use Rattle.files.specs.declared.Ending.{Ending}
-use Rattle.files.specs.declared.Mark.{Mark}
+use Rattle.laws.specs.WalkBounds.{all-fit, end-fits, text-short}
+use Rattle.laws.specs.Theorems.{longest-list}
+use Rattle.consults.specs.Tape.{Tape, written, ended, after, endingOf, numbered, Done}
+use Rattle.consults.specs.Meaning.{tapeOf}
+use Rattle.consults.specs.declared.Ending.{Ending}
+use Rattle.consults.specs.declared.Mark.{Mark}
 use Rattle.listing.specs.declared.Checked.{Checked}
 use Rattle.listing.specs.declared.Checked.the-variants.{Accepted}
-use Rattle.lookup.specs.Meaning.{roomsOf, refusalBy}
-use Rattle.lookup.specs.Walked.{packedOf, Small, Walked}
-use Rattle.lookup.proofs.Endings.{length-of}
+use Rattle.answer.specs.Meaning.{roomsOf, refusalBy}
+use Rattle.answer.specs.Walked.{packedOf, Small, Walked}
+use Rattle.answer.proofs.Endings.{length-of}
 use Rattle.lookup.proofs.Tapes.{Noted, noted}
 
 -- a check that passed

@@ -1,7 +1,7 @@
 // Reads the files `tree`, `settings` and `question` of the folder it is run in, and prints the lookup's answer: the number with the texts,
 // then a line for each consult. A file that cannot be read is named on standard error.
+use answer::Answer;
 use libc::STDOUT_FILENO;
-use lookup::Answer;
 
 fn say(line: &[u8]) {
     io::write_all(STDOUT_FILENO, line);

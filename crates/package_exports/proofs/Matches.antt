@@ -12,7 +12,7 @@ use Rattle.definition.specs.Path.{dirs}
 use Rattle.definition.specs.Specifier.{dotSubpath, stripPackageName}
 use Rattle.definition.specs.Json.{Json}
 use Rattle.definition.specs.JsonAt.{getAt}
-use Rattle.definition.specs.JsonAtLaws.{Stands, Finds, finds, finds-none, get-here}
+use Rattle.laws.specs.JsonAtLaws.{Stands, Finds, finds, finds-none, get-here}
 use Rattle.definition.specs.Exports as exports
 use Rattle.definition.specs.Exports.{Failure, NotFound, Empty, InvalidPackageTarget, PackagePathNotExported, InvalidPackageConfig, InvalidPackageConfigDirectory, JsonError, failureNumber, failureTexts, PACKAGE-EXPORTS-RESOLVE}
 use Rattle.definition.specs.Ask.{Listing, Step, go, stop, Ask, ret, end, ask, read, _>>=_, _>>_}
@@ -28,19 +28,19 @@ use Rattle.exports.specs.Chosen as chosen
 use Rattle.exports.specs.declared.Part.{Part}
 use Rattle.exports.specs.Contexts.{partText}
 use Rattle.exports.proofs.Contexts.{first-text, part-short}
-use Rattle.files.specs.declared.Ending.{Ending}
-use Rattle.files.specs.declared.Mark.{Mark}
-use Rattle.files.specs.declared.Way.{Way}
-use Rattle.files.specs.declared.Way.the-variants.{Next, Stopped}
+use Rattle.consults.specs.declared.Ending.{Ending}
+use Rattle.consults.specs.declared.Mark.{Mark}
+use Rattle.consults.specs.declared.Way.{Way}
+use Rattle.consults.specs.declared.Way.the-variants.{Next, Stopped}
 use Rattle.directory.specs.declared.Package.{Package}
-use Rattle.files.specs.Tape.{Tape, Done, endingOf, done-ret, done-bind, done-stop}
-use Rattle.files.specs.Meaning.{tapeOf, stepOf, place, Sees}
+use Rattle.consults.specs.Tape.{Tape, Done, endingOf, done-ret, done-bind, done-stop}
+use Rattle.consults.specs.Meaning.{tapeOf, stepOf, place, Sees}
 use Rattle.directory.specs.Routines.{Finishes, ifDirectory, scopeOf}
 use Rattle.package_exports.specs.Routines.{foundOf, matchExports}
-use Rattle.files.proofs.Way as way
-use Rattle.files.proofs.Steps.{Ends, done-finish}
+use Rattle.consults.proofs.Way as way
+use Rattle.consults.proofs.Steps.{Ends, done-finish}
 use Rattle.directory.proofs.Manifests.{perhaps-none, perhaps-some}
-use Rattle.files.proofs.Ways.{bind-bind, ended, way-onward}
+use Rattle.consults.proofs.Ways.{bind-bind, ended, way-onward}
 
 -- THE TEXTS OF AN ERROR
 pub done-failed : {A : Type 0} {L : Listing _} {f : Failure} {n : ℕ} {a b c : Text} → Ends (stopped (failed f)) n a b c → {r : Ending} {before after : Text} → Finishes n a b c r before after → (ns list : List ℕ) (m : Mark) → Done {A = A} L (given (stop (failed f))) (tapeOf before ns list m) (tapeOf after ns list m) (stop r)

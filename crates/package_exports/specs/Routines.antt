@@ -9,10 +9,10 @@ use Rattle.definition.specs.Settings.{Settings}
 use Rattle.definition.specs.Ask.{Step, go, stop, Ask, _>>=_}
 use Rattle.definition.specs.Manifest.{Place, resolveExports}
 use Rattle.definition.specs.Walk.{Look, given, never, RESOLVE-ESM-MATCH}
-use Rattle.files.specs.declared.Ending.{Ending}
-use Rattle.files.specs.declared.Way.{Way}
-use Rattle.files.specs.declared.Way.the-variants.{Next, Stopped}
-use Rattle.files.specs.Meaning.{place}
+use Rattle.consults.specs.declared.Ending.{Ending}
+use Rattle.consults.specs.declared.Way.{Way}
+use Rattle.consults.specs.declared.Way.the-variants.{Next, Stopped}
+use Rattle.consults.specs.Meaning.{place}
 use Rattle.directory.specs.Refusals.{roomIn}
 
 -- an exports field was resolved to a target

@@ -1,12 +1,12 @@
 // LOAD_PACKAGE_EXPORTS and LOAD_PACKAGE_SELF of lib.rs, over a lent listing.
+use consults::Ending;
+use consults::Mark;
+use consults::Out;
+use consults::Way;
 use directory::Package;
 use exports::Key;
 use exports::Match;
 use exports::Outcome;
-use files::Ending;
-use files::Mark;
-use files::Out;
-use files::Way;
 use package_json::Cursor;
 use package_json::TextAt;
 use path::PathBuf;
@@ -17,7 +17,7 @@ ghost use Prim.Native.Nat.{ℕ, _≤_};
 ghost use lib.ListN.{length, drop};
 ghost use Rattle.definition.specs.Path.{manifestOf};
 ghost use Rattle.definition.specs.Json.{Json};
-ghost use Rattle.definition.specs.JsonAtLaws.{Stands, Finds};
+ghost use Rattle.laws.specs.JsonAtLaws.{Stands, Finds};
 ghost use Rattle.definition.specs.Exports.{Context, orDot};
 ghost use Rattle.definition.specs.Ask.{Listing};
 ghost use Rattle.definition.specs.Settings.{textsOf, settingsOf};
@@ -29,8 +29,8 @@ ghost use Rattle.exports.specs.Keys.{matchOf};
 ghost use Rattle.exports.specs.Contexts.{partText};
 ghost use Rattle.exports.specs.Answers.{outcomeIn};
 ghost use Rattle.exports.specs.Chosen.{keyText};
-ghost use Rattle.files.specs.Tape.{Done};
-ghost use Rattle.files.specs.Meaning.{tapeOf, stepOf, place, Sees};
+ghost use Rattle.consults.specs.Tape.{Done};
+ghost use Rattle.consults.specs.Meaning.{tapeOf, stepOf, place, Sees};
 ghost use Rattle.directory.specs.Routines.{Finishes};
 ghost use Rattle.directory.specs.Refusals.{DoneUnless};
 ghost use Rattle.package_exports.specs.Routines.{foundOf, matchExports, roomFor};
@@ -75,7 +75,7 @@ fn resolve_esm_match<'a>(
     };
     let mark = out.mark;
     Out {
-        way: Way::Stopped(files::not_found(spec, result)),
+        way: Way::Stopped(consults::not_found(spec, result)),
         mark,
     }
 }
@@ -113,12 +113,12 @@ fn invalid_target(
     let n = p.len;
     let manifest = path::first(&p.bytes, n);
     match key {
-        Key::Dot => files::finish(3, target, b".", manifest, result),
-        Key::Subpath => files::finish(3, target, subpath, manifest, result),
+        Key::Dot => consults::finish(3, target, b".", manifest, result),
+        Key::Subpath => consults::finish(3, target, subpath, manifest, result),
         Key::At(i) => {
             let t = package_json::read_text(m, i, work);
             let name = package_json::text_at(m, work, t);
-            files::finish(3, target, name, manifest, result)
+            consults::finish(3, target, name, manifest, result)
         }
     }
 }
@@ -136,12 +136,12 @@ fn key_not_exported(
     ensures { λ r. ⌜ Finishes 4 (keyText (now (m .entry)) (now (subpath .entry)) key) (now (dir .entry)) [] r (now (result .entry)) (now (result .exit)) ⌝ }
 {
     match key {
-        Key::Dot => files::finish(4, b".", dir, b"", result),
-        Key::Subpath => files::finish(4, subpath, dir, b"", result),
+        Key::Dot => consults::finish(4, b".", dir, b"", result),
+        Key::Subpath => consults::finish(4, subpath, dir, b"", result),
         Key::At(i) => {
             let t = package_json::read_text(m, i, work);
             let name = package_json::text_at(m, work, t);
-            files::finish(4, name, dir, b"", result)
+            consults::finish(4, name, dir, b"", result)
         }
     }
 }
@@ -151,14 +151,14 @@ fn match_not_exported(subpath: &[u8], matched: Match, dir: &[u8], result: &mut [
     ensures { λ r. ⌜ Finishes 4 (orDot (matchOf (now (subpath .entry)) matched)) (now (dir .entry)) [] r (now (result .entry)) (now (result .exit)) ⌝ }
 {
     match matched {
-        Match::Part { start, len } => files::finish(
+        Match::Part { start, len } => consults::finish(
             4,
             text::part(subpath, start, len),
             dir,
             b"",
             result,
         ),
-        Match::Nothing => files::finish(4, b".", dir, b"", result),
+        Match::Nothing => consults::finish(4, b".", dir, b"", result),
     }
 }
 
@@ -179,8 +179,8 @@ fn exports_ending(
 {
     match outcome {
         Outcome::Found => Way::Next,
-        Outcome::Nothing => Way::Stopped(files::finish(4, subpath, dir, b"", result)),
-        Outcome::Empty => Way::Stopped(files::finish(2, target, b"", b"", result)),
+        Outcome::Nothing => Way::Stopped(consults::finish(4, subpath, dir, b"", result)),
+        Outcome::Empty => Way::Stopped(consults::finish(2, target, b"", b"", result)),
         Outcome::InvalidTarget => {
             Way::Stopped(invalid_target(m, target, subpath, key, dir, result, work))
         }
@@ -190,7 +190,7 @@ fn exports_ending(
         Outcome::NotExported => Way::Stopped(key_not_exported(m, subpath, key, dir, result, work)),
         Outcome::ConfigMixed => Way::Stopped(directory::manifest_ending(5, dir, result)),
         Outcome::ConfigDirectory => Way::Stopped(directory::manifest_ending(6, dir, result)),
-        Outcome::OverLong => Way::Stopped(files::refuse(42)),
+        Outcome::OverLong => Way::Stopped(consults::refuse(42)),
     }
 }
 
@@ -305,7 +305,7 @@ fn by_exports(
 {
     let field = exports_field(manifest, root, s);
     let Cursor::At(at) = field else {
-        return files::next(m);
+        return consults::next(m);
     };
     let mut dotted = [0u8; 2049];
     let n = specifier::dot_subpath(sub, &mut dotted);
@@ -342,10 +342,10 @@ pub fn load_package_exports(
     ensures { λ r. ⌜ DoneUnless (seenBy (settingsOf (now (s .entry))) (now (l .entry))) (LOAD-PACKAGE-EXPORTS (settingsOf (now (s .entry))) (now (spec .entry)) (now (sub .entry)) (now (dir .entry))) (tapeOf (now (result .entry)) (now (nums .entry)) (now (text .entry)) m) (roomFor (length (now (work .entry))) (length (now (sub .entry)))) (tapeOf (now (result .exit)) (now (nums .exit)) (now (text .exit)) (r .mark)) (stepOf (r .way)) ⌝ }
 {
     if work.len() < 1024 {
-        return files::refused(25, m);
+        return consults::refused(25, m);
     }
     if sub.len() > 2048 {
-        return files::refused(22, m);
+        return consults::refused(22, m);
     }
     let found = directory::own(l, dir, result, nums, text, m);
     let mark = found.mark;
@@ -361,7 +361,7 @@ pub fn load_package_exports(
         root,
     } = package
     else {
-        return files::next(mark);
+        return consults::next(mark);
     };
     let manifest = listing::contents(l, start, end);
     by_exports(
@@ -402,7 +402,7 @@ fn in_scope(
         let name = package_json::text_at(manifest, work, t);
         let stripped = specifier::strip_package_name(spec, name);
         let Stripped::At(n) = stripped else {
-            return files::next(m);
+            return consults::next(m);
         };
         let sub = specifier::tail(spec, n);
         return by_exports(
@@ -420,7 +420,7 @@ fn in_scope(
             work,
         );
     };
-    files::next(m)
+    consults::next(m)
 }
 
 // LOAD_PACKAGE_SELF(X, DIR): without a scope it comes back. It refuses as LOAD_PACKAGE_EXPORTS does, with 22 for a specifier that is over
@@ -439,10 +439,10 @@ pub fn load_package_self(
     ensures { λ r. ⌜ DoneUnless (seenBy (settingsOf (now (s .entry))) (now (l .entry))) (LOAD-PACKAGE-SELF (settingsOf (now (s .entry))) (now (start .entry)) (now (spec .entry))) (tapeOf (now (result .entry)) (now (nums .entry)) (now (text .entry)) m) (roomFor (length (now (work .entry))) (length (now (spec .entry)))) (tapeOf (now (result .exit)) (now (nums .exit)) (now (text .exit)) (r .mark)) (stepOf (r .way)) ⌝ }
 {
     if work.len() < 1024 {
-        return files::refused(25, m);
+        return consults::refused(25, m);
     }
     if spec.len() > 2048 {
-        return files::refused(22, m);
+        return consults::refused(22, m);
     }
     let found = directory::scope(l, start, result, nums, text, m);
     let mark = found.mark;
@@ -458,7 +458,7 @@ pub fn load_package_self(
         root,
     } = package
     else {
-        return files::next(mark);
+        return consults::next(mark);
     };
     let manifest = listing::contents(l, from, end);
     let dir = path::first(start, n);

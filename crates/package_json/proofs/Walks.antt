@@ -11,7 +11,7 @@ use lib.Dec.{eqb}
 use borrow.Author.Tests.{eq-eqb, ne-eqb, eqb-true}
 use Rattle.definition.specs.Text.{if_then_else_}
 use Rattle.definition.specs.Json.{Read}
-use Rattle.definition.specs.JsonSkipLaws.{over-text}
+use Rattle.laws.specs.JsonSkipLaws.{over-text}
 use Rattle.definition.specs.JsonAt.{thenAt, textEnd, opensBracket, closesBracket, outside, bracketEnd, restOf, further, nameIs, memberValue, nextMember, findMember}
 use Rattle.json_text.specs.Scanned.{Reads}
 use Rattle.json_text.specs.Decoded.{plain}

@@ -9,11 +9,11 @@ use lib.Seq.{take-suc}
 use lib.Dec.{eqb, leb, ltb}
 use borrow.Author.Tests.{ltb-true, ltb-false, leb-true, leb-false}
 use Rattle.definition.specs.Text.{text, slash, if_then_else_, equal, startsWith, equalIgnoringCase, before, text-computes}
-use Rattle.definition.specs.TextLaws.{equal-true, startsWith-length}
-use Rattle.definition.specs.TextSteps.{first-inside}
+use Rattle.laws.specs.TextLaws.{equal-true, startsWith-length}
+use Rattle.laws.specs.TextSteps.{first-inside}
 use Rattle.definition.specs.Path.{path-computes, parentDir, normal, component, push, parent, pops, Built, built, tooLong, andPath, limited, pushComponent, pushAll, pushRelative, normalizeWith, normalizeRelative, invalidComponent, anyInvalid}
-use Rattle.definition.specs.PathLaws.{limited-fits, component-up, parts, parts-more, parts-last, parts-rooted, rooted, not-rooted, anyInvalid-append, pushAll-append, pushRelative-append, rootOf, relative-parts, parent-short, room, room-high, relative-length, with-parts}
-use Rattle.definition.specs.PathSteps.{starts-with, starts-empty}
+use Rattle.laws.specs.PathLaws.{limited-fits, component-up, parts, parts-more, parts-last, parts-rooted, rooted, not-rooted, anyInvalid-append, pushAll-append, pushRelative-append, rootOf, relative-parts, parent-short, room, room-high, relative-length, with-parts}
+use Rattle.laws.specs.PathSteps.{starts-with, starts-empty}
 use Rattle.path.specs.Meaning.{pathAt}
 use Rattle.path.proofs.Steps.{at-fits, at-long}
 

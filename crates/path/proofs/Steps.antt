@@ -10,8 +10,8 @@ use lib.Dec.{leb, ltb}
 use borrow.Author.Tests.{le-leb, lt-leb, le-ltb, lt-ltb, leb-true, leb-false}
 use Rattle.definition.specs.Text.{text, slash, contains, beforeLast}
 use Rattle.definition.specs.Path.{Built, built, tooLong, andPath, limited, push, parent, nameOf, addExtension, addNameAndExtension}
-use Rattle.definition.specs.PathLaws.{limited-fits, limited-long, limited-append, then-append, push-empty, push-slash, push-plain}
-use Rattle.definition.specs.PathSteps.{parent-none, parent-root, parent-some, name-behind, name-whole, last-inside, last-missing, last-found}
+use Rattle.laws.specs.PathLaws.{limited-fits, limited-long, limited-append, then-append, push-empty, push-slash, push-plain}
+use Rattle.laws.specs.PathSteps.{parent-none, parent-root, parent-some, name-behind, name-whole, last-inside, last-missing, last-found}
 use Rattle.path.specs.Meaning.{pathAt, isTooLong}
 
 module _ (b : List ℕ) (n : ℕ) where

@@ -5,7 +5,7 @@ ghost use Prim.Native.Nat.{_≤_};
 ghost use lib.ListN.{length, take};
 ghost use Rattle.definition.specs.Text.{text};
 ghost use Rattle.definition.specs.Path.{built, andPath, limited, push, parent, addExtension, addNameAndExtension, manifestOf, nameOf, component, pushAll, normalizeWith, pops, pushRelative, normalizeRelative, anyInvalid, isInvalidExportsTarget};
-ghost use Rattle.definition.specs.PathLaws.{parts, rootOf};
+ghost use Rattle.laws.specs.PathLaws.{parts, rootOf};
 ghost use Rattle.path.specs.Meaning.{pathAt, pathOf, isTooLong};
 
 // A path under construction, by value. A length over 2,048 marks a path that was over-long: it has no text, and every method keeps it so.

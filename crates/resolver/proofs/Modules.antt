@@ -11,7 +11,7 @@ use lib.Seq.{take-all}
 use Rattle.definition.specs.Text.{Text, text, if_then_else_, slash, equal, startsWith, endsWith, containsText, count}
 use Rattle.definition.specs.Path.{Built, built, tooLong, andPath, limited, normalizeWith, parent, depth, climb, dirs}
 use Rattle.definition.specs.Specifier.{packageName, normalizedSpecifier, climbing}
-use Rattle.definition.specs.FitLaws.{normalized-short}
+use Rattle.laws.specs.FitLaws.{normalized-short}
 use Rattle.definition.specs.Listing.{entryAt}
 use Rattle.definition.specs.Settings.{Settings}
 use Rattle.definition.specs.Ask.{Listing, Step, go, stop, Ask, ret, end, asked, _>>=_, _>>_}
@@ -20,16 +20,16 @@ use Rattle.definition.specs.Called.{seenBy}
 use Rattle.definition.specs.Walk.{Look, when, unless, perhaps, isDir, made, under, bare, notFound, LOAD-AS-FILE, LOAD-PACKAGE-EXPORTS, inScopeDir, goOn, asDirectory, asFileOrDirectory, inModules, inDirectory, lookup}
 use Rattle.path.specs.Meaning.{pathAt}
 use denote.Enum.Declared.{tagOf, declared}
-use Rattle.files.specs.declared.Ending.{Ending}
-use Rattle.files.specs.declared.Way.{Way}
-use Rattle.files.specs.declared.Way.the-variants.{Next, Stopped}
-use Rattle.files.specs.Tape.{Tape, put, Done, done-ret, done-bind, done-stop}
-use Rattle.files.specs.Meaning.{Sees, consultOf, numbers, stepOf}
+use Rattle.consults.specs.declared.Ending.{Ending}
+use Rattle.consults.specs.declared.Way.{Way}
+use Rattle.consults.specs.declared.Way.the-variants.{Next, Stopped}
+use Rattle.consults.specs.Tape.{Tape, put, Done, done-ret, done-bind, done-stop}
+use Rattle.consults.specs.Meaning.{Sees, consultOf, numbers, stepOf}
 use Rattle.resolver.specs.Routines.{goingOf, fileFirst, directoryOrFile, inPackage, loadPackage}
-use Rattle.files.proofs.Steps.{made-long, made-fits, by-state}
-use Rattle.files.proofs.Climbs.{prefix, parent-take}
-use Rattle.files.proofs.Ways.{bind-bind, way-passed, way-onward}
-use Rattle.files.proofs.Way
+use Rattle.consults.proofs.Steps.{made-long, made-fits, by-state}
+use Rattle.consults.proofs.Climbs.{prefix, parent-take}
+use Rattle.consults.proofs.Ways.{bind-bind, way-passed, way-onward}
+use Rattle.consults.proofs.Way
 
 -- where DIR/NAME is no directory
 module _ (G : Settings) {L : Listing Sees} (spec name sub q : Text) where

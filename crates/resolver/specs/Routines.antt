@@ -7,9 +7,9 @@ use Rattle.definition.specs.Specifier.{climbing}
 use Rattle.definition.specs.Settings.{Settings}
 use Rattle.definition.specs.Ask.{Step, go, stop, Ask, _>>=_, _>>_}
 use Rattle.definition.specs.Walk.{Look, when, unless, perhaps, isDir, bare, LOAD-AS-FILE, LOAD-PACKAGE-SELF, goOn, asDirectory, asFileOrDirectory, LOAD-NODE-MODULES}
-use Rattle.files.specs.declared.Ending.{Ending}
-use Rattle.files.specs.declared.Way.{Way}
-use Rattle.files.specs.declared.Way.the-variants.{Next, Stopped}
+use Rattle.consults.specs.declared.Ending.{Ending}
+use Rattle.consults.specs.declared.Way.{Way}
+use Rattle.consults.specs.declared.Way.the-variants.{Next, Stopped}
 
 -- LOAD_NODE_MODULES, whether to go on
 abbrev pub goingOf : Way → Bool → Step Ending Bool

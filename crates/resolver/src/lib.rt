@@ -1,8 +1,8 @@
 // The walk of lib.rs through node_modules, over a lent listing, and the lookup of a bare specifier.
-use files::Ending;
-use files::Mark;
-use files::Out;
-use files::Way;
+use consults::Ending;
+use consults::Mark;
+use consults::Out;
+use consults::Way;
 ghost use mathlib.Core.Path.{_≡_};
 ghost use mathlib.Core.Bool.{false, not, _&&_};
 ghost use mathlib.Core.List.{List, []};
@@ -14,8 +14,8 @@ ghost use Rattle.definition.specs.Ask.{go, stop};
 ghost use Rattle.definition.specs.Settings.{Settings, settingsOf};
 ghost use Rattle.definition.specs.Called.{seenBy};
 ghost use Rattle.definition.specs.Walk.{perhaps, goOn, asFileOrDirectory, inModules, inDirectory, LOAD-NODE-MODULES, lookup};
-ghost use Rattle.files.specs.Tape.{Done};
-ghost use Rattle.files.specs.Meaning.{tapeOf, stepOf, numbers};
+ghost use Rattle.consults.specs.Tape.{Done};
+ghost use Rattle.consults.specs.Meaning.{tapeOf, stepOf, numbers};
 ghost use Rattle.resolver.specs.Routines.{goingOf, fileFirst, directoryOrFile, inPackage, loadPackage, Refused};
 
 // Whether a routine came back, and what with.
@@ -52,7 +52,7 @@ fn without_directory(
             mark: m,
         };
     }
-    let asked = files::consult(l, path::parent(dir), nums, text, m);
+    let asked = consults::consult(l, path::parent(dir), nums, text, m);
     let mark = asked.mark;
     Went {
         way: Way::Next,
@@ -118,7 +118,7 @@ fn load_directory_or_file(
     ensures { λ r. ⌜ Done (seenBy (settingsOf (now (s .entry))) (now (l .entry))) (directoryOrFile (settingsOf (now (s .entry))) (now (path .entry))) (tapeOf (now (result .entry)) (now (nums .entry)) (now (text .entry)) m) (tapeOf (now (result .exit)) (now (nums .exit)) (now (text .exit)) (r .mark)) (stepOf (r .way)) ⌝ }
 {
     let none: &[u8] = b"";
-    let asked = files::consult(l, path, nums, text, m);
+    let asked = consults::consult(l, path, nums, text, m);
     if asked.state == 1 {
         return directory::load_as_directory(
             l,
@@ -160,7 +160,7 @@ fn load_file_first(
     ensures { λ r. ⌜ Done (seenBy (settingsOf (now (s .entry))) (now (l .entry))) (fileFirst (settingsOf (now (s .entry))) (now (spec .entry)) (now (name .entry)) (now (path .entry))) (tapeOf (now (result .entry)) (now (nums .entry)) (now (text .entry)) m) (tapeOf (now (result .exit)) (now (nums .exit)) (now (text .exit)) (r .mark)) (stepOf (r .way)) ⌝ }
 {
     if !file_first(spec, name) {
-        return files::next(m);
+        return consults::next(m);
     }
     let none: &[u8] = b"";
     files::load_as_file(l, s, path, none, none, result, nums, text, m)
@@ -184,7 +184,7 @@ fn load_as_file_or_directory(
     let p = path::normalize_with(modules, spec);
     let n = p.len;
     if n > 2048 {
-        return files::refused(42, m);
+        return consults::refused(42, m);
     }
     let path = path::first(&p.bytes, n);
     let out = load_file_first(l, s, spec, name, path, result, nums, text, m);
@@ -213,7 +213,7 @@ fn in_package(
     requires { ⌜ (1024 ≤ length (now work)) × (length (now sub) ≤ 2048) ⌝ }
     ensures { λ r. ⌜ Done (seenBy (settingsOf (now (s .entry))) (now (l .entry))) (inPackage (settingsOf (now (s .entry))) (now (spec .entry)) (now (name .entry)) (now (sub .entry)) (now (modules .entry)) (now (dir .entry))) (tapeOf (now (result .entry)) (now (nums .entry)) (now (text .entry)) m) (tapeOf (now (result .exit)) (now (nums .exit)) (now (text .exit)) (r .mark)) (stepOf (r .way)) ⌝ }
 {
-    let asked = files::consult(l, dir, nums, text, m);
+    let asked = consults::consult(l, dir, nums, text, m);
     let is_dir = asked.state == 1;
     let went = go_on(
         l,
@@ -235,7 +235,7 @@ fn in_package(
         return Out { way, mark };
     };
     if !went.more {
-        return files::next(mark);
+        return consults::next(mark);
     }
     load_as_file_or_directory(l, s, spec, name, modules, result, nums, text, mark, work)
 }
@@ -260,7 +260,7 @@ fn in_modules(
     let p = path::normalize_with(modules, name);
     let n = p.len;
     if n > 2048 {
-        return files::refused(42, m);
+        return consults::refused(42, m);
     }
     in_package(
         l,
@@ -295,21 +295,21 @@ fn in_directory(
     requires { ⌜ (1024 ≤ length (now work)) × (length (now sub) ≤ 2048) ⌝ }
     ensures { λ r. ⌜ Done (seenBy (settingsOf (now (s .entry))) (now (l .entry))) (inDirectory (settingsOf (now (s .entry))) (now (spec .entry)) (now (name .entry)) (now (sub .entry)) (now (dir .entry))) (tapeOf (now (result .entry)) (now (nums .entry)) (now (text .entry)) m) (tapeOf (now (result .exit)) (now (nums .exit)) (now (text .exit)) (r .mark)) (stepOf (r .way)) ⌝ }
 {
-    let asked = files::consult(l, dir, nums, text, m);
+    let asked = consults::consult(l, dir, nums, text, m);
     let mark = asked.mark;
     if asked.state != 1 {
-        return files::next(mark);
+        return consults::next(mark);
     }
     let p = path::normalize_with(dir, b"node_modules");
     let n = p.len;
     if n > 2048 {
-        return files::refused(42, mark);
+        return consults::refused(42, mark);
     }
     let modules = path::first(&p.bytes, n);
-    let asked = files::consult(l, modules, nums, text, mark);
+    let asked = consults::consult(l, modules, nums, text, mark);
     let mark = asked.mark;
     if asked.state != 1 {
-        return files::next(mark);
+        return consults::next(mark);
     }
     in_modules(
         l,
@@ -347,10 +347,10 @@ fn load_node_modules(
     let mut names: usize = 0;
     let out = 'climb: loop {
         if names > 0 {
-            break 'climb files::next(mark);
+            break 'climb consults::next(mark);
         }
         let mut n = start.len();
-        let mut left = files::depth(start) + 1;
+        let mut left = consults::depth(start) + 1;
         while left > 0 {
             let dir = path::first(start, n);
             let out = in_directory(l, s, spec, name, sub, dir, result, nums, text, mark, work);
@@ -383,13 +383,13 @@ fn load_climbing(
     ensures { λ r. ⌜ Done (seenBy (settingsOf (now (s .entry))) (now (l .entry))) (perhaps (climbing (now (spec .entry))) (LOAD-NODE-MODULES (settingsOf (now (s .entry))) (now (start .entry)))) (tapeOf (now (result .entry)) (now (nums .entry)) (now (text .entry)) m) (tapeOf (now (result .exit)) (now (nums .exit)) (now (text .exit)) (r .mark)) (stepOf (r .way)) ⌝ }
 {
     if !specifier::may_climb(spec) {
-        return files::next(m);
+        return consults::next(m);
     }
     let p = specifier::normalized(spec);
     let n = p.len;
     let normalized = path::first(&p.bytes, n);
     if !specifier::climbs(normalized) {
-        return files::next(m);
+        return consults::next(m);
     }
     load_node_modules(l, s, start, normalized, result, nums, text, m, work)
 }
@@ -447,7 +447,7 @@ fn walk(
     let way = out.way;
     match way {
         Way::Next => Finished {
-            ending: files::not_found(spec, result),
+            ending: consults::not_found(spec, result),
             mark,
         },
         Way::Stopped(ending) => Finished { ending, mark },
@@ -473,13 +473,13 @@ pub fn load_package_self_or_node_modules(
 {
     if work.len() < 1024 {
         return Finished {
-            ending: files::refuse(25),
+            ending: consults::refuse(25),
             mark: Mark { count: 0, size: 0 },
         };
     }
     if spec.len() > 512 {
         return Finished {
-            ending: files::refuse(22),
+            ending: consults::refuse(22),
             mark: Mark { count: 0, size: 0 },
         };
     }

@@ -10,7 +10,7 @@ use lib.ListN.{length, take, drop, getD}
 use lib.Seq.{take-all}
 use borrow.Author.Tests.{eqb-true, eqb-false}
 use Rattle.definition.specs.Settings.{countOf, countBefore, textLengths, allTexts, textsOf, sum, isSetting, isNonEmpty, passes24}
-use Rattle.definition.specs.SettingsLaws.{sum-next, sum-first, kind-inside, lengths-length, length-at, texts-length, text-at, count-is, text-of, isExtension, textPasses, countsPass, refused-length, accepted-by-texts}
+use Rattle.laws.specs.SettingsLaws.{sum-next, sum-first, kind-inside, lengths-length, length-at, texts-length, text-at, count-is, text-of, isExtension, textPasses, countsPass, refused-length, accepted-by-texts}
 
 module _ (s : List ℕ) where
   -- the count of a kind is what its byte says, as far as the lengths reach

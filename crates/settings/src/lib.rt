@@ -5,7 +5,7 @@ ghost use mathlib.Core.List.{[]};
 ghost use Prim.Native.Nat.{_+_, _≤_, _<_};
 ghost use lib.ListN.{length, take, getD};
 ghost use Rattle.definition.specs.Settings.{countBefore, textLengths, textsOf, sum, isSetting, isNonEmpty, passes24};
-ghost use Rattle.definition.specs.SettingsLaws.{countsPass, isExtension};
+ghost use Rattle.laws.specs.SettingsLaws.{countsPass, isExtension};
 ghost use Rattle.settings.specs.Meaning.{numberOf};
 
 pub enum Kind {

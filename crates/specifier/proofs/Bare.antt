@@ -6,9 +6,9 @@ use mathlib.Core.List.{List, [], _∷_}
 use native.Mathlib.Omega.{arith}
 use lib.ListN.{length, drop, take, getD}
 use Rattle.definition.specs.Text.{text, slash, equal, startsWith, before}
-use Rattle.definition.specs.TextSteps.{equal-lengths}
+use Rattle.laws.specs.TextSteps.{equal-lengths}
 use Rattle.definition.specs.Specifier.{isBare}
-use Rattle.definition.specs.SpecifierLaws.{starts-at, starts-not, before-take, bareBytes, bare}
+use Rattle.laws.specs.SpecifierLaws.{starts-at, starts-not, before-take, bareBytes, bare}
 
 pub none : (s : List ℕ) → length s ≡ 0 → isBare s ≡ false
 unfolding bareBytes equal

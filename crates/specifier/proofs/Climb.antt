@@ -9,7 +9,7 @@ use lib.Dec.{leb}
 use lib.ListN.{length, take, length-take}
 use Rattle.definition.specs.Text.{text, endsWith}
 use Rattle.definition.specs.Path.{Built, built, tooLong, andPath, limited, addExtension, normalizeRelative}
-use Rattle.definition.specs.PathLaws.{limited-fits, limited-long}
+use Rattle.laws.specs.PathLaws.{limited-fits, limited-long}
 use Rattle.definition.specs.Specifier.{normalizedSpecifier}
 use Rattle.path.specs.Meaning.{pathAt}
 use Rattle.path.proofs.Steps.{at-fits, at-long}

@@ -9,10 +9,10 @@ use lib.Dec.{eqb}
 use lib.ListN.{length, drop, take, length-take}
 use lib.Seq.{take-take, length-take-le}
 use Rattle.definition.specs.Text.{if_then_else_, question, hash, before, from}
-use Rattle.definition.specs.TextSteps.{before-inside}
+use Rattle.laws.specs.TextSteps.{before-inside}
 use Rattle.definition.specs.Path.{Built, limited}
 use Rattle.definition.specs.Specifier.{parsed, emptySpecifier, beforeFragment, body, unescape, pathBefore, orEmpty, parseSpecifier}
-use Rattle.definition.specs.SpecifierLaws.{before-take}
+use Rattle.laws.specs.SpecifierLaws.{before-take}
 use Rattle.specifier.specs.Meaning.{Scanned, parts, noPath, partsOf}
 use Rattle.specifier.proofs.Widening.{widened, widened-some}
 

@@ -8,9 +8,9 @@ use native.Mathlib.Omega.{arith}
 use lib.ListN.{length, drop, take, getD, length-drop, drop-of-length-le}
 use lib.Seq.{take-all, drop-length, drop-nil, take-nil}
 use Rattle.definition.specs.Text.{text, equal, startsWith, overwrite}
-use Rattle.definition.specs.TextSteps.{equal-lengths}
+use Rattle.laws.specs.TextSteps.{equal-lengths}
 use Rattle.definition.specs.Specifier.{dotSubpath, stripPackageName}
-use Rattle.definition.specs.SpecifierLaws.{starts-at, starts-not}
+use Rattle.laws.specs.SpecifierLaws.{starts-at, starts-not}
 
 -- a part that runs to the end
 pub to-end : (s : List ℕ) (e : ℕ) → take (length s - e) (drop e s) ≡ drop e s

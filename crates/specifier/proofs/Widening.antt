@@ -10,9 +10,9 @@ use lib.Dec.{eqb, leb, ltb}
 use lib.ListN.{length, drop, take, set, getD, length-append, length-set, drop-of-length-le}
 use lib.Seq.{drop-cons, take-suc-set, length-take-le}
 use Rattle.definition.specs.Text.{text, if_then_else_, startsWith, trail, utf8}
-use Rattle.definition.specs.TextLaws.{and-true, startsWith-length}
+use Rattle.laws.specs.TextLaws.{and-true, startsWith-length}
 use Rattle.definition.specs.Path.{Built, built, tooLong, andPath, limited, addExtension}
-use Rattle.definition.specs.PathLaws.{limited-fits, limited-append}
+use Rattle.laws.specs.PathLaws.{limited-fits, limited-append}
 use Rattle.definition.specs.Specifier.{unescape}
 use Rattle.path.specs.Meaning.{pathAt}
 use Rattle.path.proofs.Steps.{at-fits, at-long, put-over, put-long}

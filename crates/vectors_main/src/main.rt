@@ -2,9 +2,9 @@
 // give the number and the lengths that the file holds, and leave the file's texts and list in the lent buffers, with zeros behind them. It
 // prints how many cases ran and how many of them differ, and before that a line for each of the first that differ, counted from 0. A file
 // that cannot be read, or is damaged, gets a line on standard error instead.
+use answer::Answer;
 use libc::STDERR_FILENO;
 use libc::STDOUT_FILENO;
-use lookup::Answer;
 ghost use Prim.Native.Nat.{_≤_};
 
 // As a length: the listing or the settings of the case before.

@@ -5,7 +5,7 @@ use Rattle.directory.proofs.fault_ending.Tie as tie
 use Rattle.directory.proofs.fault_ending.Reads as reads
 use Rattle.directory.proofs.fault_ending.Lts as lts
 use Rattle.directory.proofs.manifest_ending.Reads as manifest-ending-reads
-use Rattle.files.proofs.refuse.Reads as refuse-reads
+use Rattle.consults.proofs.refuse.Reads as refuse-reads
 
 pub fault-ending-spec : {M : Type 1} → statement M
 fault-ending-spec =

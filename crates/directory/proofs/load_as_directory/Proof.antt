@@ -10,7 +10,7 @@ use Rattle.directory.proofs.load_as_directory.Lts as lts
 use Rattle.directory.proofs.load_by_manifest.Reads as load-by-manifest-reads
 use Rattle.directory.proofs.own.Reads as own-reads
 use Rattle.files.proofs.load_index.Reads as load-index-reads
-use Rattle.files.proofs.refused.Reads as refused-reads
+use Rattle.consults.proofs.refused.Reads as refused-reads
 use Rattle.listing.proofs.contents.Reads as contents-reads
 
 pub load-as-directory-spec : {M : Type 1} → statement M

@@ -1,7 +1,7 @@
 use Rattle.definition.specs.Ask.{_>>_}
 use Rattle.definition.specs.Settings.{settingsOf}
 use Rattle.directory.specs.Routines.{byManifest}
-use Rattle.files.proofs.Ways.{way-passed, way-onward}
+use Rattle.consults.proofs.Ways.{way-passed, way-onward}
 use borrow.Author.Needs.{needs}
 use Rattle.directory.proofs.load_by_manifest.Statement.{statement}
 use Rattle.directory.proofs.load_by_manifest.Tie as tie

@@ -1,5 +1,5 @@
 use Rattle.directory.proofs.Manifests.{main-long, main-fits}
-use Rattle.files.proofs.Ways.{way-passed, way-onward}
+use Rattle.consults.proofs.Ways.{way-passed, way-onward}
 use borrow.Author.Needs.{needs}
 use Rattle.directory.proofs.load_main.Statement.{statement}
 use Rattle.directory.proofs.load_main.Tie as tie
@@ -9,7 +9,7 @@ use Rattle.path.proofs.first.Reads as first-reads
 use Rattle.files.proofs.load_as_file.Reads as load-as-file-reads
 use Rattle.files.proofs.load_index.Reads as load-index-reads
 use Rattle.directory.proofs.main_path.Reads as main-path-reads
-use Rattle.files.proofs.refused.Reads as refused-reads
+use Rattle.consults.proofs.refused.Reads as refused-reads
 
 pub load-main-spec : {M : Type 1} → statement M
 load-main-spec =

@@ -6,7 +6,7 @@ use Rattle.directory.proofs.load_main_field.Statement.{statement}
 use Rattle.directory.proofs.load_main_field.Tie as tie
 use Rattle.directory.proofs.load_main_field.Reads as reads
 use Rattle.directory.proofs.load_main_field.Lts as lts
-use Rattle.files.proofs.next.Reads as next-reads
+use Rattle.consults.proofs.next.Reads as next-reads
 use Rattle.json_text.proofs.text_at.Reads as text-at-reads
 use Rattle.directory.proofs.load_main.Reads as load-main-reads
 use Rattle.directory.proofs.text_field.Reads as text-field-reads

@@ -5,20 +5,20 @@ use Prim.Native.Nat.{_-_, _<_}
 use native.Mathlib.Omega.{arith}
 use lib.ListN.{length, drop}
 use Rattle.definition.specs.Json.{Json}
-use Rattle.definition.specs.JsonAtLaws.{Stands}
+use Rattle.laws.specs.JsonAtLaws.{Stands}
 use Rattle.definition.specs.Settings.{textsOf, settingsOf}
 use Rattle.definition.specs.Called.{seenBy}
-use Rattle.files.specs.Loop.{Left, left-start, left-again, left-stop, left-end}
-use Rattle.files.specs.Meaning.{tapeOf, place}
+use Rattle.consults.specs.Loop.{Left, left-start, left-again, left-stop, left-end}
+use Rattle.consults.specs.Meaning.{tapeOf, place}
 use Rattle.directory.specs.Routines.{mainField}
 use Rattle.files.proofs.Files.{left-texts, none-left}
-use Rattle.files.proofs.Ways.{ended, onward}
+use Rattle.consults.proofs.Ways.{ended, onward}
 use borrow.Author.Needs.{needs}
 use Rattle.directory.proofs.load_main_fields.Statement.{statement}
 use Rattle.directory.proofs.load_main_fields.Tie as tie
 use Rattle.directory.proofs.load_main_fields.Reads as reads
 use Rattle.directory.proofs.load_main_fields.Lts as lts
-use Rattle.files.proofs.next.Reads as next-reads
+use Rattle.consults.proofs.next.Reads as next-reads
 use Rattle.directory.proofs.load_main_field.Reads as load-main-field-reads
 use Rattle.settings.proofs.count.Reads as count-reads
 

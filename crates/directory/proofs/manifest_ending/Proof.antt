@@ -1,14 +1,14 @@
 use mathlib.Core.Path.{_∙_, ap}
 use Rattle.definition.specs.Path.{andPath, limited, manifestOf}
-use Rattle.files.proofs.Climbs.{manifest-built}
+use Rattle.consults.proofs.Climbs.{manifest-built}
 use Rattle.directory.proofs.Manifests.{ending-long, ending-fits}
 use borrow.Author.Needs.{needs}
 use Rattle.directory.proofs.manifest_ending.Statement.{statement}
 use Rattle.directory.proofs.manifest_ending.Tie as tie
 use Rattle.directory.proofs.manifest_ending.Reads as reads
 use Rattle.directory.proofs.manifest_ending.Lts as lts
-use Rattle.files.proofs.finish.Reads as finish-reads
-use Rattle.files.proofs.refuse.Reads as refuse-reads
+use Rattle.consults.proofs.finish.Reads as finish-reads
+use Rattle.consults.proofs.refuse.Reads as refuse-reads
 use Rattle.path.proofs.PathBuf.from.Reads as from-reads
 use Rattle.path.proofs.PathBuf.push_manifest.Reads as push-manifest-reads
 use Rattle.path.proofs.first.Reads as first-reads

@@ -1,9 +1,9 @@
 use borrow.Author.Needs.{needs}
-use Rattle.definition.specs.TextLaws.{before-after-length, startsWith-length}
+use Rattle.laws.specs.TextLaws.{before-after-length, startsWith-length}
 use mathlib.Core.Path.{_≡_, sym, _∙_}
 use borrow.Author.Tests.{not-true, not-false}
 use Rattle.definition.specs.Text.{star}
-use Rattle.definition.specs.TextSteps.{before-inside}
+use Rattle.laws.specs.TextSteps.{before-inside}
 use Rattle.exports.proofs.Keys.{has, has-not, match-other, match-star, match-file, match-elsewhere, match-folder, base-part, trailer-part}
 use Rattle.exports.proofs.pattern_match.Statement.{statement}
 use Rattle.exports.proofs.pattern_match.Tie as tie

@@ -1,5 +1,5 @@
 use borrow.Author.Needs.{needs}
-use Rattle.definition.specs.TextSteps.{before-inside}
+use Rattle.laws.specs.TextSteps.{before-inside}
 use Rattle.definition.specs.Text.{star}
 use Rattle.exports.proofs.Keys.{has, has-not, rank-starred, rank-plain}
 use Rattle.exports.proofs.rank_of.Statement.{statement}

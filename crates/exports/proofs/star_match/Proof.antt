@@ -1,7 +1,7 @@
 use borrow.Author.Needs.{needs}
 use mathlib.Core.Path.{_≡_, sym, _∙_}
 use borrow.Author.Tests.{not-true, not-false}
-use Rattle.definition.specs.TextLaws.{startsWith-length}
+use Rattle.laws.specs.TextLaws.{startsWith-length}
 use Rattle.exports.proofs.Keys.{star-start, star-again, star-end, star-part, room}
 use Rattle.exports.proofs.star_match.Statement.{statement}
 use Rattle.exports.proofs.star_match.Tie as tie

@@ -7,18 +7,18 @@ use lib.ListN.{length, drop}
 use Rattle.definition.specs.Settings.{textsOf, settingsOf}
 use Rattle.definition.specs.Called.{seenBy}
 use Rattle.definition.specs.Walk.{tryExtension}
-use Rattle.files.specs.Loop.{Left, left-start, left-again, left-stop, left-end}
-use Rattle.files.specs.Meaning.{tapeOf, place}
+use Rattle.consults.specs.Loop.{Left, left-start, left-again, left-stop, left-end}
+use Rattle.consults.specs.Meaning.{tapeOf, place}
 use Rattle.files.proofs.Files.{left-texts, none-left, file-ended, file-then}
-use Rattle.files.proofs.Ways.{ended, onward}
+use Rattle.consults.proofs.Ways.{ended, onward}
 use borrow.Author.Needs.{needs}
 use Rattle.files.proofs.load_as_file.Statement.{statement}
 use Rattle.files.proofs.load_as_file.Tie as tie
 use Rattle.files.proofs.load_as_file.Reads as reads
 use Rattle.files.proofs.load_as_file.Lts as lts
-use Rattle.files.proofs.next.Reads as next-reads
+use Rattle.consults.proofs.next.Reads as next-reads
 use Rattle.files.proofs.try_extension.Reads as try-extension-reads
-use Rattle.files.proofs.try_file.Reads as try-file-reads
+use Rattle.consults.proofs.try_file.Reads as try-file-reads
 use Rattle.settings.proofs.count.Reads as count-reads
 
 abbrev Inv-loop : tie.InvT-loop

@@ -7,16 +7,16 @@ use lib.ListN.{length, drop}
 use Rattle.definition.specs.Settings.{textsOf, settingsOf}
 use Rattle.definition.specs.Called.{seenBy}
 use Rattle.definition.specs.Walk.{LOAD-INDEX}
-use Rattle.files.specs.Loop.{Left, left-start, left-again, left-stop, left-end}
-use Rattle.files.specs.Meaning.{tapeOf, place, loadMainFile}
+use Rattle.consults.specs.Loop.{Left, left-start, left-again, left-stop, left-end}
+use Rattle.consults.specs.Meaning.{tapeOf, place, loadMainFile}
 use Rattle.files.proofs.Files.{left-texts, none-left}
-use Rattle.files.proofs.Ways.{ended, onward}
+use Rattle.consults.proofs.Ways.{ended, onward}
 use borrow.Author.Needs.{needs}
 use Rattle.files.proofs.load_index.Statement.{statement}
 use Rattle.files.proofs.load_index.Tie as tie
 use Rattle.files.proofs.load_index.Reads as reads
 use Rattle.files.proofs.load_index.Lts as lts
-use Rattle.files.proofs.next.Reads as next-reads
+use Rattle.consults.proofs.next.Reads as next-reads
 use Rattle.files.proofs.load_main_file.Reads as load-main-file-reads
 use Rattle.settings.proofs.count.Reads as count-reads
 use Rattle.settings.proofs.text.Reads as text-reads

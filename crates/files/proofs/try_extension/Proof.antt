@@ -8,7 +8,7 @@ use Rattle.files.proofs.try_extension.Reads as reads
 use Rattle.files.proofs.try_extension.Lts as lts
 use Rattle.path.proofs.PathBuf.append.Reads as append-reads
 use Rattle.path.proofs.PathBuf.from.Reads as from-reads
-use Rattle.files.proofs.try_path.Reads as try-path-reads
+use Rattle.consults.proofs.try_path.Reads as try-path-reads
 use Rattle.settings.proofs.text.Reads as text-reads
 
 pub try-extension-spec : {M : Type 1} → statement M

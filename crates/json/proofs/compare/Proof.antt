@@ -2,7 +2,7 @@ use mathlib.Core.Path.{sym, _∙_}
 use Prim.Native.Nat.{_-_}
 use borrow.Author.Needs.{needs}
 use Rattle.json.proofs.Names.{smaller-other}
-use Rattle.definition.specs.TextLaws.{equal-true}
+use Rattle.laws.specs.TextLaws.{equal-true}
 use Rattle.json.proofs.compare.Statement.{statement}
 use Rattle.json.proofs.compare.Tie as tie
 

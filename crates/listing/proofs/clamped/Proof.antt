@@ -3,7 +3,7 @@ use Prim.Native.Nat.{ℕ, _+_, _*_, min}
 use native.Mathlib.Omega.{arith}
 use lib.ListN.{length, drop}
 use Rattle.definition.specs.Listing.{number32, contentsLength}
-use Rattle.definition.specs.ListingSteps.{pathLengthAt, contentsMarkAt, rows-place}
+use Rattle.laws.specs.ListingSteps.{pathLengthAt, contentsMarkAt, rows-place}
 use borrow.Author.Needs.{needs}
 use Rattle.listing.proofs.clamped.Statement.{statement}
 use Rattle.listing.proofs.clamped.Tie as tie

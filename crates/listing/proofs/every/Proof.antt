@@ -6,7 +6,7 @@ use Prim.Native.Nat.{_-_}
 use native.Mathlib.Omega.{arith}
 use Rattle.definition.specs.Text.{all}
 use Rattle.definition.specs.Listing.{entryCount, rows}
-use Rattle.definition.specs.ListingSteps.{rowsAt, rows-stand, rows-end, all-next, all-end, Standing, standing-start}
+use Rattle.laws.specs.ListingSteps.{rowsAt, rows-stand, rows-end, all-next, all-end, Standing, standing-start}
 use Rattle.listing.specs.Meaning.{ruleOf}
 use Rattle.listing.proofs.every.Statement.{statement}
 use Rattle.listing.proofs.every.Tie as tie

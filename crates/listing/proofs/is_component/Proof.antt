@@ -1,6 +1,6 @@
 use mathlib.Core.Path.{sym}
 use native.Mathlib.Omega.{arith}
-use Rattle.definition.specs.ListingNameLaws.{component-empty, component-plain, component-dot, component-more, component-dots}
+use Rattle.laws.specs.ListingNameLaws.{component-empty, component-plain, component-dot, component-more, component-dots}
 use borrow.Author.Needs.{needs}
 use Rattle.listing.proofs.is_component.Statement.{statement}
 use Rattle.listing.proofs.is_component.Tie as tie

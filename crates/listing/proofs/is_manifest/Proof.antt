@@ -1,7 +1,7 @@
 use mathlib.Core.Path.{refl, sym, _∙_}
 use native.Mathlib.Omega.{arith}
 use borrow.Author.Tests.{not-true, not-false}
-use Rattle.definition.specs.ListingNameLaws.{manifest-short, manifest-other, manifest-whole, manifest-behind}
+use Rattle.laws.specs.ListingNameLaws.{manifest-short, manifest-other, manifest-whole, manifest-behind}
 use borrow.Author.Needs.{needs}
 use Rattle.listing.proofs.is_manifest.Statement.{statement}
 use Rattle.listing.proofs.is_manifest.Tie as tie

@@ -1,7 +1,7 @@
 use mathlib.Core.Path.{sym, _∙_}
 use borrow.Author.Tests.{not-true, not-false}
 use native.Mathlib.Omega.{arith}
-use Rattle.definition.specs.ListingNameLaws.{isName, name-plain, name-zero, name-utf8}
+use Rattle.laws.specs.ListingNameLaws.{isName, name-plain, name-zero, name-utf8}
 use borrow.Author.Needs.{needs}
 use Rattle.listing.proofs.is_name.Statement.{statement}
 use Rattle.listing.proofs.is_name.Tie as tie

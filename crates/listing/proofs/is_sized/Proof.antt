@@ -1,6 +1,6 @@
 use mathlib.Core.Path.{sym, _∙_}
 use native.Mathlib.Omega.{arith}
-use Rattle.definition.specs.ListingOrder.{sized-long, sized-empty, sized-full}
+use Rattle.laws.specs.ListingOrder.{sized-long, sized-empty, sized-full}
 use borrow.Author.Needs.{needs}
 use Rattle.listing.proofs.is_sized.Statement.{statement}
 use Rattle.listing.proofs.is_sized.Tie as tie

@@ -5,7 +5,7 @@ use Prim.Native.Nat.{ℕ, _+_, _-_, _*_, _≤_}
 use native.Mathlib.Omega.{arith}
 use lib.ListN.{drop}
 use Rattle.definition.specs.Listing.{number32, contentsLength}
-use Rattle.definition.specs.ListingSteps.{pathLengthAt, contentsMarkAt, lengthsAt, lengths-next, lengths-end}
+use Rattle.laws.specs.ListingSteps.{pathLengthAt, contentsMarkAt, lengthsAt, lengths-next, lengths-end}
 use Rattle.listing.proofs.lengths.Statement.{statement}
 use Rattle.listing.proofs.lengths.Tie as tie
 

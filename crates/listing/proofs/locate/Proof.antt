@@ -3,7 +3,7 @@ use Prim.Native.Nat.{ℕ, _+_, _*_}
 use native.Mathlib.Omega.{arith}
 use lib.ListN.{drop}
 use Rattle.definition.specs.Listing.{number32, contentsLength}
-use Rattle.definition.specs.ListingSteps.{pathLengthAt, contentsMarkAt, standing-next, standing-row, standing-inside}
+use Rattle.laws.specs.ListingSteps.{pathLengthAt, contentsMarkAt, standing-next, standing-row, standing-inside}
 use borrow.Author.Needs.{needs}
 use Rattle.listing.proofs.locate.Statement.{statement}
 use Rattle.listing.proofs.locate.Tie as tie

@@ -1,6 +1,6 @@
 use mathlib.Core.Path.{sym, _∙_}
 use native.Mathlib.Omega.{arith}
-use Rattle.definition.specs.ListingSteps.{match-long, match-beyond, match-inside}
+use Rattle.laws.specs.ListingSteps.{match-long, match-beyond, match-inside}
 use borrow.Author.Needs.{needs}
 use Rattle.listing.proofs.matches.Statement.{statement}
 use Rattle.listing.proofs.matches.Tie as tie

@@ -1,5 +1,5 @@
 use mathlib.Core.Path.{_∙_}
-use Rattle.definition.specs.ListingSteps.{number-at}
+use Rattle.laws.specs.ListingSteps.{number-at}
 use borrow.Author.Needs.{needs}
 use Rattle.listing.proofs.number.Statement.{statement}
 use Rattle.listing.proofs.number.Tie as tie

@@ -9,8 +9,8 @@ use native.Mathlib.Omega.{arith}
 use lib.ListN.{length}
 use Rattle.definition.specs.Text.{text, equal, all}
 use Rattle.definition.specs.Listing.{entryCount, rows, firstIsRoot}
-use Rattle.definition.specs.ListingSteps.{part, rowBy, root-first, root-length, rowsAt, rows-stand, rows-end, all-true, Standing, standing-start}
-use Rattle.definition.specs.ListingOrder.{sized, sized-short, Going, going-start, going-end, marks-one, marks-more, marks-size}
+use Rattle.laws.specs.ListingSteps.{part, rowBy, root-first, root-length, rowsAt, rows-stand, rows-end, all-true, Standing, standing-start}
+use Rattle.laws.specs.ListingOrder.{sized, sized-short, Going, going-start, going-end, marks-one, marks-more, marks-size}
 use Rattle.listing.proofs.ordered.Statement.{statement}
 use Rattle.listing.proofs.ordered.Tie as tie
 

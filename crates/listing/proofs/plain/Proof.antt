@@ -1,6 +1,6 @@
 use borrow.Author.Needs.{needs}
 use native.Mathlib.Omega.{arith}
-use Rattle.definition.specs.ListingNameLaws.{Plain, plain-start, plain-next}
+use Rattle.laws.specs.ListingNameLaws.{Plain, plain-start, plain-next}
 use Prim.Native.Nat.{_-_}
 use lib.ListN.{length}
 use Rattle.listing.proofs.plain.Statement.{statement}

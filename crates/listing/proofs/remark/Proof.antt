@@ -2,7 +2,7 @@
 use borrow.Author.Needs.{needs}
 use Prim.Native.Nat.{_+_, _-_, _≤_}
 use native.Mathlib.Omega.{arith}
-use Rattle.definition.specs.ListingOrder.{Cleared, cleared-start, cleared-next, cleared-marked}
+use Rattle.laws.specs.ListingOrder.{Cleared, cleared-start, cleared-next, cleared-marked}
 use Rattle.listing.proofs.remark.Statement.{statement}
 use Rattle.listing.proofs.remark.Tie as tie
 

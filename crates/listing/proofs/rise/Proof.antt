@@ -4,8 +4,8 @@ use mathlib.Core.Path.{_≡_, sym, _∙_}
 use Prim.Native.Nat.{_-_, _≤_}
 use lib.ListN.{length, drop, take}
 use Rattle.definition.specs.Text.{smaller}
-use Rattle.definition.specs.TextSteps.{smaller-end, larger-here, smaller-next, take-more}
-use Rattle.definition.specs.ListingOrder.{smaller-shared, rise-short, rise-here}
+use Rattle.laws.specs.TextSteps.{smaller-end, larger-here, smaller-next, take-more}
+use Rattle.laws.specs.ListingOrder.{smaller-shared, rise-short, rise-here}
 use native.Mathlib.Omega.{arith}
 use Rattle.listing.proofs.rise.Statement.{statement}
 use Rattle.listing.proofs.rise.Tie as tie

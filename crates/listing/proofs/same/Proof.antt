@@ -1,6 +1,6 @@
 use mathlib.Core.Path.{_∙_}
 use borrow.Author.Needs.{needs}
-use Rattle.definition.specs.ListingOrder.{equal-shared}
+use Rattle.laws.specs.ListingOrder.{equal-shared}
 use Rattle.listing.proofs.same.Statement.{statement}
 use Rattle.listing.proofs.same.Tie as tie
 

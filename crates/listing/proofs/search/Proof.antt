@@ -2,14 +2,14 @@
 use mathlib.Core.Path.{refl, _≡_, sym, _∙_, ap}
 use mathlib.Core.Bool.{true, false}
 use borrow.Author.Tests.{leb-true, eq-eqb, ne-eqb}
-use Rattle.definition.specs.TextLaws.{and-true}
+use Rattle.laws.specs.TextLaws.{and-true}
 use borrow.Author.Needs.{needs}
 use Prim.Native.Nat.{ℕ, _+_, _-_, _*_, _≤_, min}
 use native.Mathlib.Omega.{arith}
 use lib.ListN.{length, drop}
 use lib.Dec.{eqb}
 use Rattle.definition.specs.Listing.{entryCount, number32, contentsLength, entryOf, directoryMark}
-use Rattle.definition.specs.ListingSteps.{pathLengthAt, contentsMarkAt, Seeking, seek-start, seek-hit, seek-miss, seek-end}
+use Rattle.laws.specs.ListingSteps.{pathLengthAt, contentsMarkAt, Seeking, seek-start, seek-hit, seek-miss, seek-end}
 use Rattle.listing.proofs.search.Statement.{statement}
 use Rattle.listing.proofs.search.Tie as tie
 

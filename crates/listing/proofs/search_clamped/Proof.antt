@@ -5,7 +5,7 @@ use Prim.Native.Nat.{_-_, _≤_}
 use native.Mathlib.Omega.{arith}
 use lib.ListN.{length}
 use Rattle.definition.specs.Listing.{entryOf, entryIn, entryAt}
-use Rattle.definition.specs.ListingSteps.{rowsAt, rows-begin, rows-end, entry-hit, entry-miss, entry-end}
+use Rattle.laws.specs.ListingSteps.{rowsAt, rows-begin, rows-end, entry-hit, entry-miss, entry-end}
 use Rattle.listing.proofs.search_clamped.Statement.{statement}
 use Rattle.listing.proofs.search_clamped.Tie as tie
 

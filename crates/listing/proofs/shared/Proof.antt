@@ -4,7 +4,7 @@ use Prim.Native.Nat.{_-_}
 use native.Mathlib.Omega.{arith}
 use lib.ListN.{length}
 use mathlib.Core.Path.{sym, _∙_}
-use Rattle.definition.specs.ListingOrder.{Shared, shared-start, shared-next}
+use Rattle.laws.specs.ListingOrder.{Shared, shared-start, shared-next}
 use Rattle.listing.proofs.shared.Statement.{statement}
 use Rattle.listing.proofs.shared.Tie as tie
 

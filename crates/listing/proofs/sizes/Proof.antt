@@ -4,7 +4,7 @@ use native.Mathlib.Omega.{arith}
 use Prim.Native.Nat.{_+_, _*_}
 use lib.ListN.{length}
 use Rattle.definition.specs.Listing.{entryCount, textLength}
-use Rattle.definition.specs.ListingSteps.{sizes-is}
+use Rattle.laws.specs.ListingSteps.{sizes-is}
 use borrow.Author.Needs.{needs}
 use Rattle.listing.proofs.sizes.Statement.{statement}
 use Rattle.listing.proofs.sizes.Tie as tie

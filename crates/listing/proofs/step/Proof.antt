@@ -5,9 +5,9 @@ use lib.ListN.{length}
 use native.Mathlib.Omega.{arith}
 use borrow.Author.Tests.{not-true, not-false}
 use Rattle.definition.specs.Text.{slash}
-use Rattle.definition.specs.PathSteps.{last-missing, last-there}
-use Rattle.definition.specs.ListingNameLaws.{path-no-slash, path-two-slashes, cut-of}
-use Rattle.definition.specs.ListingOrder.{going-down, going-no-path, going-apart, going-unmarked, going-too-deep, name-is, going-next}
+use Rattle.laws.specs.PathSteps.{last-missing, last-there}
+use Rattle.laws.specs.ListingNameLaws.{path-no-slash, path-two-slashes, cut-of}
+use Rattle.laws.specs.ListingOrder.{going-down, going-no-path, going-apart, going-unmarked, going-too-deep, name-is, going-next}
 use borrow.Author.Needs.{needs}
 use Rattle.listing.proofs.step.Statement.{statement}
 use Rattle.listing.proofs.step.Tie as tie

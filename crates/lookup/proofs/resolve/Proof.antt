@@ -1,8 +1,9 @@
 use mathlib.Core.Path.{refl}
 use native.Mathlib.Omega.{arith}
 use lib.ListN.{length}
-use Rattle.lookup.specs.Meaning.{questionOf, roomsOf}
-use Rattle.lookup.proofs.Delivering.{when-refused, when-accepted}
+use Rattle.lookup.specs.Meaning.{questionOf}
+use Rattle.answer.specs.Meaning.{roomsOf}
+use Rattle.answer.proofs.Delivering.{when-refused, when-accepted}
 use Rattle.lookup.proofs.Walking.{small, walked, same-rooms, called-by, passed-by}
 use borrow.Author.Needs.{needs}
 use Rattle.lookup.proofs.resolve.Statement.{statement}
@@ -17,16 +18,7 @@ resolve-spec =
     (λ c κs. search needs)
     (λ c. search needs)
     (λ c κs. search needs)
-    (λ c κs.
-    let a = c .before .before .before .before .before .before .before .before .before .before .before .before .before .before .before .before .before .before .before .before .before .before .before .before .before .before .before .args in
-    let q = questionOf (a .listing .now) (a .settings .now) (a .start .now) (a .specifier .now) in
-    let m = roomsOf (a .result .now) (a .nums .now) (a .text .now) (length (a .work .now)) in
-    let o = c .before .before .before .before .before .before .before .before .before .before .before .before .before .before .before .before .before .before .check in
-    let p = passed-by q m (o .result) (o .ensures m refl) (c .before .before .before .before .before .before .before .before .before .before .before .before .before .before .before .before .enum-told .given .1) in
-    let d = c .before .before .before .before .before .before .before .before .before .before .before .load-package-self-or-node-modules in
-    let k = d .kept .1 .1 .1 .1 in
-    let done = d .ensures .0 (let h = p .work in omega arith) (p .specifier) in
-    small q m p _ _ _ _ _ _ _ _ (k .0) (k .1 .0) (k .1 .1 .0) done)
+    (λ c κs. search needs)
     (λ c. search needs)
     (λ c. search needs)
     (λ c. search needs)
@@ -51,4 +43,4 @@ resolve-spec =
     let done = d .ensures .0 (let h = p .work in omega arith) (p .specifier) in
     when-accepted m (o .result) _ _ _ (called-by q m (o .result) (o .ensures m refl)) (c .before .before .before .before .before .before .before .before .before .before .before .before .before .before .before .before .before .before .before .before .before .before .before .enum-told .given .1)
     (same-rooms q m p _ _ _ _ _ _ _ _ (k .0) (k .1 .0) (k .1 .1 .0) done _ _
-    (c .before .before .before .before .before .before .deliver .ensures _ _ _ (walked q m p _ _ _ _ _ _ _ _ (k .0) (k .1 .0) (k .1 .1 .0) done)))))
+    (c .before .before .before .before .before .before .deliver .ensures .0 (small q m p _ _ _ _ _ _ _ _ (k .0) (k .1 .0) (k .1 .1 .0) done) _ _ _ (walked q m p _ _ _ _ _ _ _ _ (k .0) (k .1 .0) (k .1 .1 .0) done)))))

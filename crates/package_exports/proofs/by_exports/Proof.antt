@@ -7,7 +7,7 @@ use Rattle.package_exports.proofs.by_exports.Statement.{statement}
 use Rattle.package_exports.proofs.by_exports.Tie as tie
 use Rattle.package_exports.proofs.by_exports.Reads as reads
 use Rattle.package_exports.proofs.by_exports.Lts as lts
-use Rattle.files.proofs.next.Reads as next-reads
+use Rattle.consults.proofs.next.Reads as next-reads
 use Rattle.path.proofs.first.Reads as first-reads
 use Rattle.package_exports.proofs.exports_field.Reads as exports-field-reads
 use Rattle.package_exports.proofs.resolve_exports.Reads as resolve-exports-reads

@@ -1,8 +1,8 @@
 use Rattle.definition.specs.Exports.{Empty, InvalidPackageTarget, PackagePathNotExported, InvalidPackageConfig, InvalidPackageConfigDirectory, failureNumber, failureTexts, pathNotExported}
 use Rattle.definition.specs.Manifest.{pathTooLong, refusalNumber, resolvedTo}
 use Rattle.definition.specs.Walk.{given}
-use Rattle.files.specs.Tape.{done-ret}
-use Rattle.files.proofs.Steps.{done-refuse, ends-failed}
+use Rattle.consults.specs.Tape.{done-ret}
+use Rattle.consults.proofs.Steps.{done-refuse, ends-failed}
 use Rattle.directory.proofs.Manifests.{ending-named}
 use Rattle.package_exports.proofs.Matches.{done-failed}
 use borrow.Author.Needs.{needs}
@@ -10,12 +10,12 @@ use Rattle.package_exports.proofs.exports_ending.Statement.{statement}
 use Rattle.package_exports.proofs.exports_ending.Tie as tie
 use Rattle.package_exports.proofs.exports_ending.Reads as reads
 use Rattle.package_exports.proofs.exports_ending.Lts as lts
-use Rattle.files.proofs.finish.Reads as finish-reads
+use Rattle.consults.proofs.finish.Reads as finish-reads
 use Rattle.package_exports.proofs.invalid_target.Reads as invalid-target-reads
 use Rattle.package_exports.proofs.key_not_exported.Reads as key-not-exported-reads
 use Rattle.directory.proofs.manifest_ending.Reads as manifest-ending-reads
 use Rattle.package_exports.proofs.match_not_exported.Reads as match-not-exported-reads
-use Rattle.files.proofs.refuse.Reads as refuse-reads
+use Rattle.consults.proofs.refuse.Reads as refuse-reads
 
 pub exports-ending-spec : {M : Type 1} → statement M
 unfolding given resolvedTo pathNotExported failureNumber failureTexts refusalNumber

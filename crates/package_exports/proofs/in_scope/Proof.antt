@@ -9,7 +9,7 @@ use Rattle.package_exports.proofs.in_scope.Statement.{statement}
 use Rattle.package_exports.proofs.in_scope.Tie as tie
 use Rattle.package_exports.proofs.in_scope.Reads as reads
 use Rattle.package_exports.proofs.in_scope.Lts as lts
-use Rattle.files.proofs.next.Reads as next-reads
+use Rattle.consults.proofs.next.Reads as next-reads
 use Rattle.json_text.proofs.text_at.Reads as text-at-reads
 use Rattle.package_exports.proofs.by_exports.Reads as by-exports-reads
 use Rattle.directory.proofs.text_field.Reads as text-field-reads

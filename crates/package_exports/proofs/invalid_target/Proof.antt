@@ -13,7 +13,7 @@ use Rattle.json_text.proofs.text_at.Reads as text-at-reads
 use Rattle.path.proofs.PathBuf.from.Reads as from-reads
 use Rattle.path.proofs.PathBuf.push_manifest.Reads as push-manifest-reads
 use Rattle.path.proofs.first.Reads as first-reads
-use Rattle.files.proofs.finish.Reads as finish-reads
+use Rattle.consults.proofs.finish.Reads as finish-reads
 
 pub invalid-target-spec : {M : Type 1} → statement M
 invalid-target-spec =

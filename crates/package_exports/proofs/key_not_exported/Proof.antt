@@ -8,7 +8,7 @@ use Rattle.package_exports.proofs.key_not_exported.Reads as reads
 use Rattle.package_exports.proofs.key_not_exported.Lts as lts
 use Rattle.json_text.proofs.read_text.Reads as read-text-reads
 use Rattle.json_text.proofs.text_at.Reads as text-at-reads
-use Rattle.files.proofs.finish.Reads as finish-reads
+use Rattle.consults.proofs.finish.Reads as finish-reads
 
 pub key-not-exported-spec : {M : Type 1} → statement M
 key-not-exported-spec =

@@ -10,9 +10,9 @@ use Rattle.package_exports.proofs.load_package_exports.Statement.{state
 use Rattle.package_exports.proofs.load_package_exports.Tie as tie
 use Rattle.package_exports.proofs.load_package_exports.Reads as reads
 use Rattle.package_exports.proofs.load_package_exports.Lts as lts
-use Rattle.files.proofs.next.Reads as next-reads
+use Rattle.consults.proofs.next.Reads as next-reads
 use Rattle.directory.proofs.own.Reads as own-reads
-use Rattle.files.proofs.refused.Reads as refused-reads
+use Rattle.consults.proofs.refused.Reads as refused-reads
 use Rattle.listing.proofs.contents.Reads as contents-reads
 use Rattle.package_exports.proofs.by_exports.Reads as by-exports-reads
 

@@ -10,9 +10,9 @@ use Rattle.package_exports.proofs.load_package_self.Statement.{statemen
 use Rattle.package_exports.proofs.load_package_self.Tie as tie
 use Rattle.package_exports.proofs.load_package_self.Reads as reads
 use Rattle.package_exports.proofs.load_package_self.Lts as lts
-use Rattle.files.proofs.next.Reads as next-reads
+use Rattle.consults.proofs.next.Reads as next-reads
 use Rattle.directory.proofs.scope.Reads as scope-reads
-use Rattle.files.proofs.refused.Reads as refused-reads
+use Rattle.consults.proofs.refused.Reads as refused-reads
 use Rattle.listing.proofs.contents.Reads as contents-reads
 use Rattle.package_exports.proofs.in_scope.Reads as in-scope-reads
 use Rattle.path.proofs.first.Reads as first-reads

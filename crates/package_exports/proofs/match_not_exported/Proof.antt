@@ -4,7 +4,7 @@ use Rattle.package_exports.proofs.match_not_exported.Statement.{stateme
 use Rattle.package_exports.proofs.match_not_exported.Tie as tie
 use Rattle.package_exports.proofs.match_not_exported.Reads as reads
 use Rattle.package_exports.proofs.match_not_exported.Lts as lts
-use Rattle.files.proofs.finish.Reads as finish-reads
+use Rattle.consults.proofs.finish.Reads as finish-reads
 use Rattle.text.proofs.part.Reads as part-reads
 
 pub match-not-exported-spec : {M : Type 1} → statement M

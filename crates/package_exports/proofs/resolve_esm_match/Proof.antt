@@ -6,7 +6,7 @@ use Rattle.package_exports.proofs.resolve_esm_match.Statement.{statemen
 use Rattle.package_exports.proofs.resolve_esm_match.Tie as tie
 use Rattle.package_exports.proofs.resolve_esm_match.Reads as reads
 use Rattle.package_exports.proofs.resolve_esm_match.Lts as lts
-use Rattle.files.proofs.not_found.Reads as not-found-reads
+use Rattle.consults.proofs.not_found.Reads as not-found-reads
 use Rattle.files.proofs.load_as_file.Reads as load-as-file-reads
 use Rattle.directory.proofs.load_if_directory.Reads as load-if-directory-reads
 

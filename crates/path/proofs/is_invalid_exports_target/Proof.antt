@@ -5,8 +5,8 @@ use Prim.Native.Nat.{_-_, _≤_}
 use lib.ListN.{length, drop}
 use Rattle.definition.specs.Text.{slash}
 use Rattle.definition.specs.Path.{anyInvalid, isInvalidExportsTarget}
-use Rattle.definition.specs.TextSteps.{first-inside}
-use Rattle.definition.specs.PathLaws.{parts, invalid-parts}
+use Rattle.laws.specs.TextSteps.{first-inside}
+use Rattle.laws.specs.PathLaws.{parts, invalid-parts}
 use Rattle.path.proofs.Parts.{invalid-here, invalid-last, invalid-more}
 use Rattle.path.proofs.is_invalid_exports_target.Statement.{statement}
 use Rattle.path.proofs.is_invalid_exports_target.Tie as tie

@@ -5,8 +5,8 @@ use Prim.Native.Nat.{_-_, _≤_}
 use lib.ListN.{length}
 use Rattle.definition.specs.Text.{slash}
 use Rattle.definition.specs.Path.{limited}
-use Rattle.definition.specs.TextSteps.{first-inside}
-use Rattle.definition.specs.PathLaws.{limited-long}
+use Rattle.laws.specs.TextSteps.{first-inside}
+use Rattle.laws.specs.PathLaws.{limited-long}
 use Rattle.path.specs.Meaning.{pathOf}
 use Rattle.path.proofs.Parts.{root-short, Going, going-start, going-more, going-last}
 use Rattle.path.proofs.normalize_relative.Statement.{statement}

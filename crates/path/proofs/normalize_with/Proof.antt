@@ -1,7 +1,7 @@
 use borrow.Author.Needs.{needs}
 use native.Mathlib.Omega.{arith}
 use mathlib.Core.Path.{sym, _∙_}
-use Rattle.definition.specs.PathLaws.{with-empty, with-rooted, with-parts}
+use Rattle.laws.specs.PathLaws.{with-empty, with-rooted, with-parts}
 use Rattle.path.proofs.Parts.{with-dot}
 use Rattle.path.proofs.normalize_with.Statement.{statement}
 use Rattle.path.proofs.normalize_with.Tie as tie

@@ -1,6 +1,6 @@
 use borrow.Author.Needs.{needs}
 use mathlib.Core.Path.{sym, _∙_}
-use Rattle.definition.specs.PathLaws.{component-empty, component-dot, component-name}
+use Rattle.laws.specs.PathLaws.{component-empty, component-dot, component-name}
 use Rattle.path.proofs.Parts.{push-none, push-up, push-name}
 use Rattle.path.proofs.push_part.Statement.{statement}
 use Rattle.path.proofs.push_part.Tie as tie

@@ -5,8 +5,8 @@ use Prim.Native.Nat.{_-_, _≤_}
 use lib.ListN.{length, drop}
 use Rattle.definition.specs.Text.{slash}
 use Rattle.definition.specs.Path.{andPath, pushAll}
-use Rattle.definition.specs.TextSteps.{first-inside}
-use Rattle.definition.specs.PathLaws.{parts}
+use Rattle.laws.specs.TextSteps.{first-inside}
+use Rattle.laws.specs.PathLaws.{parts}
 use Rattle.path.specs.Meaning.{pathAt}
 use Rattle.path.proofs.Parts.{with-last, with-more}
 use Rattle.path.proofs.push_parts.Statement.{statement}

@@ -1,7 +1,7 @@
 use mathlib.Core.Path.{sym, _∙_}
 use Rattle.definition.specs.Walk.{when, under, inDirectory}
-use Rattle.files.specs.Tape.{done-ret}
-use Rattle.files.proofs.Steps.{is-dir, no-dir, made-long, made-fits}
+use Rattle.consults.specs.Tape.{done-ret}
+use Rattle.consults.proofs.Steps.{is-dir, no-dir, made-long, made-fits}
 use borrow.Author.Needs.{needs}
 use Rattle.resolver.proofs.in_directory.Statement.{statement}
 use Rattle.resolver.proofs.in_directory.Tie as tie
@@ -9,9 +9,9 @@ use Rattle.resolver.proofs.in_directory.Reads as reads
 use Rattle.resolver.proofs.in_directory.Lts as lts
 use Rattle.path.proofs.first.Reads as first-reads
 use Rattle.path.proofs.normalize_with.Reads as normalize-with-reads
-use Rattle.files.proofs.consult.Reads as consult-reads
+use Rattle.consults.proofs.consult.Reads as consult-reads
 use Rattle.resolver.proofs.in_modules.Reads as in-modules-reads
-use Rattle.files.proofs.refuse.Reads as refuse-reads
+use Rattle.consults.proofs.refuse.Reads as refuse-reads
 
 pub in-directory-spec : {M : Type 1} → statement M
 unfolding inDirectory when under

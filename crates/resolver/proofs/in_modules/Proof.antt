@@ -3,7 +3,7 @@ use Rattle.resolver.proofs.in_modules.Statement.{statement}
 use Rattle.resolver.proofs.in_modules.Tie as tie
 use Rattle.resolver.proofs.in_modules.Reads as reads
 use Rattle.resolver.proofs.in_modules.Lts as lts
-use Rattle.files.proofs.refused.Reads as refused-reads
+use Rattle.consults.proofs.refused.Reads as refused-reads
 use Rattle.path.proofs.first.Reads as first-reads
 use Rattle.path.proofs.normalize_with.Reads as normalize-with-reads
 use Rattle.resolver.proofs.in_package.Reads as in-package-reads

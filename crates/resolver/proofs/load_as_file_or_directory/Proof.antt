@@ -3,7 +3,7 @@ use Rattle.resolver.proofs.load_as_file_or_directory.Statement.{stateme
 use Rattle.resolver.proofs.load_as_file_or_directory.Tie as tie
 use Rattle.resolver.proofs.load_as_file_or_directory.Reads as reads
 use Rattle.resolver.proofs.load_as_file_or_directory.Lts as lts
-use Rattle.files.proofs.refused.Reads as refused-reads
+use Rattle.consults.proofs.refused.Reads as refused-reads
 use Rattle.path.proofs.first.Reads as first-reads
 use Rattle.path.proofs.normalize_with.Reads as normalize-with-reads
 use Rattle.resolver.proofs.load_directory_or_file.Reads as load-directory-or-file-reads

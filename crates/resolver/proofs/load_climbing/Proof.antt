@@ -2,7 +2,7 @@ use mathlib.Core.Path.{_≡_, sym, _∙_, ap}
 use native.Mathlib.Omega.{arith}
 use borrow.Author.Tests.{not-true, not-false}
 use lib.ListN.{length}
-use Rattle.definition.specs.FitLaws.{normalized-short}
+use Rattle.laws.specs.FitLaws.{normalized-short}
 use Rattle.resolver.proofs.Modules.{stays, stays-inside, climbs-out, normalized-here}
 use borrow.Author.Needs.{needs}
 use Rattle.resolver.proofs.load_climbing.Statement.{statement}

@@ -4,7 +4,7 @@ use Rattle.resolver.proofs.load_file_first.Tie as tie
 use Rattle.resolver.proofs.load_file_first.Reads as reads
 use Rattle.resolver.proofs.load_file_first.Lts as lts
 use Rattle.files.proofs.load_as_file.Reads as load-as-file-reads
-use Rattle.files.proofs.next.Reads as next-reads
+use Rattle.consults.proofs.next.Reads as next-reads
 use Rattle.resolver.proofs.file_first.Reads as file-first-reads
 
 -- src/lib.rt:162:9

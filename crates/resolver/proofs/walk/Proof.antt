@@ -3,7 +3,7 @@ use Rattle.resolver.proofs.walk.Statement.{statement}
 use Rattle.resolver.proofs.walk.Tie as tie
 use Rattle.resolver.proofs.walk.Reads as reads
 use Rattle.resolver.proofs.walk.Lts as lts
-use Rattle.files.proofs.not_found.Reads as not-found-reads
+use Rattle.consults.proofs.not_found.Reads as not-found-reads
 use Rattle.resolver.proofs.load_package.Reads as load-package-reads
 
 -- src/lib.rt:445:9

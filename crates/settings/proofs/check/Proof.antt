@@ -9,7 +9,7 @@ use borrow.Author.Count.{below-more}
 use borrow.Author.Needs.{needs}
 use borrow.Author.Tests.{not-true, not-false}
 use Rattle.definition.specs.Settings.{countBefore, sum}
-use Rattle.definition.specs.SettingsLaws.{textPasses, refused-counts, refused-length, refused-text, texts-length}
+use Rattle.laws.specs.SettingsLaws.{textPasses, refused-counts, refused-length, refused-text, texts-length}
 use Rattle.settings.proofs.Steps.{startOf, start-next, too-long, passes-here, all-read}
 use Rattle.settings.proofs.check.Statement.{statement}
 use Rattle.settings.proofs.check.Tie as tie

@@ -3,7 +3,7 @@ use lib.ListN.{getD}
 use borrow.Author.Needs.{needs}
 use borrow.Author.Tests.{le-leb, lt-leb}
 use Rattle.definition.specs.Settings.{countOf}
-use Rattle.definition.specs.SettingsLaws.{countsPass}
+use Rattle.laws.specs.SettingsLaws.{countsPass}
 use Rattle.settings.proofs.counts_pass.Statement.{statement}
 use Rattle.settings.proofs.counts_pass.Tie as tie
 

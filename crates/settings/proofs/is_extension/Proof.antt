@@ -3,7 +3,7 @@ use lib.ListN.{getD}
 use borrow.Author.Needs.{needs}
 use borrow.Author.Tests.{le-leb, lt-leb}
 use Rattle.definition.specs.Settings.{countOf}
-use Rattle.definition.specs.SettingsLaws.{isExtension}
+use Rattle.laws.specs.SettingsLaws.{isExtension}
 use Rattle.settings.proofs.is_extension.Statement.{statement}
 use Rattle.settings.proofs.is_extension.Tie as tie
 

@@ -2,7 +2,7 @@ use mathlib.Core.Path.{sym, _∙_}
 use native.Mathlib.Omega.{arith}
 use borrow.Author.Needs.{needs}
 use Rattle.definition.specs.Settings.{countOf}
-use Rattle.definition.specs.SettingsLaws.{kind-inside, text-none}
+use Rattle.laws.specs.SettingsLaws.{kind-inside, text-none}
 use Rattle.settings.proofs.Steps.{text-found}
 use Rattle.settings.proofs.text.Statement.{statement}
 use Rattle.settings.proofs.text.Tie as tie

@@ -2,7 +2,7 @@ use mathlib.Core.Path.{sym, _∙_}
 use borrow.Author.Needs.{needs}
 use borrow.Author.Tests.{le-leb, lt-leb, not-true, not-false}
 use Rattle.definition.specs.Settings.{isSetting}
-use Rattle.definition.specs.SettingsLaws.{empty-text, other-text}
+use Rattle.laws.specs.SettingsLaws.{empty-text, other-text}
 use Rattle.settings.proofs.text_passes.Statement.{statement}
 use Rattle.settings.proofs.text_passes.Tie as tie
 

@@ -2,7 +2,7 @@ use mathlib.Core.Path.{sym, _∙_}
 use native.Mathlib.Omega.{arith}
 use lib.Seq.{length-take-le}
 use Rattle.definition.specs.Text.{slash}
-use Rattle.definition.specs.TextSteps.{first-inside}
+use Rattle.laws.specs.TextSteps.{first-inside}
 use Rattle.specifier.proofs.Bare.{none, root, hash, dot, dots, yes}
 use borrow.Author.Needs.{needs}
 use Rattle.specifier.proofs.is_bare.Statement.{statement}

@@ -2,7 +2,7 @@ use Prim.Native.Nat.{_+_}
 use mathlib.Core.Bool.{and-false}
 use native.Mathlib.Omega.{arith}
 use borrow.Author.Tests.{eq-eqb, ne-eqb}
-use Rattle.definition.specs.SpecifierLaws.{starts-at, starts-not, starts-end}
+use Rattle.laws.specs.SpecifierLaws.{starts-at, starts-not, starts-end}
 use borrow.Author.Needs.{needs}
 use Rattle.specifier.proofs.is_escape.Statement.{statement}
 use Rattle.specifier.proofs.is_escape.Tie as tie

@@ -1,5 +1,5 @@
 use borrow.Author.Needs.{needs}
-use Rattle.definition.specs.SpecifierLaws.{name-whole, name-plain, name-scoped}
+use Rattle.laws.specs.SpecifierLaws.{name-whole, name-plain, name-scoped}
 use Rattle.specifier.proofs.name_end.Statement.{statement}
 use Rattle.specifier.proofs.name_end.Tie as tie
 

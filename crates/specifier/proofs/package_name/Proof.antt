@@ -2,7 +2,7 @@ use borrow.Author.Needs.{needs}
 use mathlib.Core.Path.{sym}
 use native.Mathlib.Omega.{arith}
 use lib.Seq.{length-take-le}
-use Rattle.definition.specs.SpecifierLaws.{name-take, name-inside}
+use Rattle.laws.specs.SpecifierLaws.{name-take, name-inside}
 use Rattle.specifier.proofs.package_name.Statement.{statement}
 use Rattle.specifier.proofs.package_name.Tie as tie
 

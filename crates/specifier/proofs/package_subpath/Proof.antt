@@ -2,7 +2,7 @@ use borrow.Author.Needs.{needs}
 use native.Mathlib.Omega.{arith}
 use Rattle.specifier.proofs.Parts.{to-end}
 use Rattle.definition.specs.Specifier.{packageSubpath}
-use Rattle.definition.specs.SpecifierLaws.{name-inside}
+use Rattle.laws.specs.SpecifierLaws.{name-inside}
 use Rattle.specifier.proofs.package_subpath.Statement.{statement}
 use Rattle.specifier.proofs.package_subpath.Tie as tie
 

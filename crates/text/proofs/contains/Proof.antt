@@ -3,7 +3,7 @@ use Prim.Native.Nat.{_-_}
 use lib.ListN.{length, drop}
 use borrow.Author.Needs.{needs}
 use Rattle.definition.specs.Text.{contains}
-use Rattle.definition.specs.TextSteps.{contains-end, contains-here, contains-not}
+use Rattle.laws.specs.TextSteps.{contains-end, contains-here, contains-not}
 use Rattle.text.proofs.contains.Statement.{statement}
 use Rattle.text.proofs.contains.Tie as tie
 

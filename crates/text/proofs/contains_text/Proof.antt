@@ -3,7 +3,7 @@ use Prim.Native.Nat.{_-_}
 use lib.ListN.{length, drop}
 use borrow.Author.Needs.{needs}
 use Rattle.definition.specs.Text.{containsText}
-use Rattle.definition.specs.TextSteps.{containsText-end, containsText-here, containsText-not, part-rest}
+use Rattle.laws.specs.TextSteps.{containsText-end, containsText-here, containsText-not, part-rest}
 use Rattle.text.proofs.contains_text.Statement.{statement}
 use Rattle.text.proofs.contains_text.Tie as tie
 

@@ -5,7 +5,7 @@ use native.Mathlib.Nat.{add-zero}
 use lib.ListN.{length, drop, length-set}
 use borrow.Author.Needs.{needs}
 use Rattle.definition.specs.Text.{overwrite}
-use Rattle.definition.specs.TextSteps.{overwrite-step, overwrite-end}
+use Rattle.laws.specs.TextSteps.{overwrite-step, overwrite-end}
 use Rattle.text.proofs.copy_at.Statement.{statement}
 use Rattle.text.proofs.copy_at.Tie as tie
 

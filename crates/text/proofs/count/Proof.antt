@@ -5,7 +5,7 @@ use native.Mathlib.Omega.{arith}
 use lib.ListN.{length, drop}
 use borrow.Author.Needs.{needs}
 use Rattle.definition.specs.Text.{count}
-use Rattle.definition.specs.TextSteps.{count-end, count-here, count-not}
+use Rattle.laws.specs.TextSteps.{count-end, count-here, count-not}
 use Rattle.text.proofs.count.Statement.{statement}
 use Rattle.text.proofs.count.Tie as tie
 

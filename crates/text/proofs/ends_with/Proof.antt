@@ -2,7 +2,7 @@ use mathlib.Core.Path.{_∙_}
 use borrow.Author.Needs.{needs}
 use borrow.Author.Tests.{le-leb, lt-leb}
 use Rattle.definition.specs.Text.{endsWith}
-use Rattle.definition.specs.TextSteps.{part-rest}
+use Rattle.laws.specs.TextSteps.{part-rest}
 use Rattle.text.proofs.ends_with.Statement.{statement}
 use Rattle.text.proofs.ends_with.Tie as tie
 

@@ -4,7 +4,7 @@ use native.Mathlib.Omega.{arith}
 use lib.ListN.{length, drop}
 use borrow.Author.Needs.{needs}
 use Rattle.definition.specs.Text.{equalIgnoringCase}
-use Rattle.definition.specs.TextSteps.{ignoring-lengths, ignoring-end, ignoring-here, ignoring-not}
+use Rattle.laws.specs.TextSteps.{ignoring-lengths, ignoring-end, ignoring-here, ignoring-not}
 use Rattle.text.proofs.eq_ignore_ascii_case.Statement.{statement}
 use Rattle.text.proofs.eq_ignore_ascii_case.Tie as tie
 

@@ -4,7 +4,7 @@ use native.Mathlib.Omega.{arith}
 use lib.ListN.{length, drop}
 use borrow.Author.Needs.{needs}
 use Rattle.definition.specs.Text.{equal}
-use Rattle.definition.specs.TextSteps.{equal-lengths, equal-end, equal-here, unequal-here}
+use Rattle.laws.specs.TextSteps.{equal-lengths, equal-end, equal-here, unequal-here}
 use Rattle.text.proofs.equal.Statement.{statement}
 use Rattle.text.proofs.equal.Tie as tie
 

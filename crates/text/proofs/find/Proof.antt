@@ -4,7 +4,7 @@ use native.Mathlib.Omega.{arith}
 use lib.ListN.{length, drop}
 use borrow.Author.Needs.{needs}
 use Rattle.definition.specs.Text.{before}
-use Rattle.definition.specs.TextSteps.{before-end, before-here, before-not}
+use Rattle.laws.specs.TextSteps.{before-end, before-here, before-not}
 use Rattle.text.proofs.find.Statement.{statement}
 use Rattle.text.proofs.find.Tie as tie
 

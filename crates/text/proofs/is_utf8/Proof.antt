@@ -5,7 +5,7 @@ use native.Mathlib.Omega.{arith}
 use lib.ListN.{length, drop, drop-of-length-le}
 use borrow.Author.Needs.{needs}
 use Rattle.definition.specs.Text.{due, isUtf8From, isUtf8}
-use Rattle.definition.specs.TextSteps.{utf8-ascii, utf8-step, utf8-end, utf8-bad}
+use Rattle.laws.specs.TextSteps.{utf8-ascii, utf8-step, utf8-end, utf8-bad}
 use Rattle.text.specs.Meaning.{meant}
 use Rattle.text.proofs.is_utf8.Statement.{statement}
 use Rattle.text.proofs.is_utf8.Tie as tie

@@ -4,7 +4,7 @@ use native.Mathlib.Omega.{arith}
 use lib.ListN.{length, drop}
 use borrow.Author.Needs.{needs}
 use Rattle.definition.specs.Text.{smaller}
-use Rattle.definition.specs.TextSteps.{smaller-end, smaller-start, smaller-here, larger-here, smaller-next}
+use Rattle.laws.specs.TextSteps.{smaller-end, smaller-start, smaller-here, larger-here, smaller-next}
 use Rattle.text.proofs.less.Statement.{statement}
 use Rattle.text.proofs.less.Tie as tie
 

@@ -1,6 +1,6 @@
 use borrow.Author.Needs.{needs}
 use Rattle.definition.specs.Text.{lowerCase}
-use Rattle.definition.specs.TextSteps.{within-yes, within-low, within-high}
+use Rattle.laws.specs.TextSteps.{within-yes, within-low, within-high}
 use Rattle.text.proofs.lower.Statement.{statement}
 use Rattle.text.proofs.lower.Tie as tie
 

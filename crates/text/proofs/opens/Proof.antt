@@ -5,7 +5,7 @@ use native.Mathlib.Omega.{arith}
 use lib.Dec.{eqb}
 use borrow.Author.Tests.{lt-ltb, le-ltb, eq-eqb, ne-eqb}
 use Rattle.definition.specs.Text.{if_then_else_, within, due, bad, dueAfter}
-use Rattle.definition.specs.TextSteps.{within-yes, within-low, within-high}
+use Rattle.laws.specs.TextSteps.{within-yes, within-low, within-high}
 use Rattle.text.proofs.opens.Statement.{statement}
 use Rattle.text.proofs.opens.Tie as tie
 

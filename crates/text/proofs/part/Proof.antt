@@ -4,7 +4,7 @@ use native.Mathlib.Omega.{arith}
 use lib.ListN.{drop-of-length-le}
 use lib.Seq.{take-nil}
 use borrow.Author.Needs.{needs}
-use Rattle.definition.specs.TextSteps.{take-clip}
+use Rattle.laws.specs.TextSteps.{take-clip}
 use Rattle.text.proofs.part.Statement.{statement}
 use Rattle.text.proofs.part.Tie as tie
 

@@ -8,7 +8,7 @@ use lib.ListN.{length, drop}
 use lib.Seq.{length-take-le}
 use borrow.Author.Needs.{needs}
 use Rattle.definition.specs.Text.{contains}
-use Rattle.definition.specs.TextSteps.{contains-end, contains-not, last-at, last-none}
+use Rattle.laws.specs.TextSteps.{contains-end, contains-not, last-at, last-none}
 use Rattle.text.proofs.rfind.Statement.{statement}
 use Rattle.text.proofs.rfind.Tie as tie
 

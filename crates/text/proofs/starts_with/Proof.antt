@@ -1,7 +1,7 @@
 use mathlib.Core.Path.{sym, _∙_}
 use native.Mathlib.Nat.{sub-zero}
 use borrow.Author.Needs.{needs}
-use Rattle.definition.specs.TextSteps.{startsWith-short, startsWith-equal}
+use Rattle.laws.specs.TextSteps.{startsWith-short, startsWith-equal}
 use Rattle.text.proofs.starts_with.Statement.{statement}
 use Rattle.text.proofs.starts_with.Tie as tie
 

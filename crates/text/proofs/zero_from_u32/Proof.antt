@@ -5,7 +5,7 @@ use native.Mathlib.Numerals.{add-one}
 use lib.ListN.{length, length-set}
 use borrow.Author.Needs.{needs}
 use Rattle.definition.specs.Text.{zeroFrom}
-use Rattle.definition.specs.TextSteps.{zeroFrom-here, zeroFrom-past}
+use Rattle.laws.specs.TextSteps.{zeroFrom-here, zeroFrom-past}
 use Rattle.text.proofs.zero_from_u32.Statement.{statement}
 use Rattle.text.proofs.zero_from_u32.Tie as tie
 

@@ -1,0 +1,89 @@
+-- What stands behind the lookup, test by test: its own refusal, 20, 21, or the answer.
+use mathlib.Core.Path.{_≡_, refl, sym, _∙_, ap}
+use mathlib.Core.Bool.{true, false, or-true}
+use mathlib.Core.List.{List}
+use Prim.Native.Nat.{ℕ, _≤_, _<_}
+use native.Mathlib.Omega.{arith}
+use borrow.Author.Tests.{lt-ltb, le-ltb}
+use lib.Dec.{ltb}
+use lib.ListN.{length}
+use Rattle.definition.specs.Exports.{failureNumber, NotFound, Empty, InvalidPackageTarget, PackagePathNotExported, InvalidPackageConfig, InvalidPackageConfigDirectory, JsonError}
+use Rattle.definition.specs.Ask.{Consult}
+use Rattle.definition.specs.Manifest.{manifestBeyond, nameTwice, pathTooLong, refusalNumber, failed, refused, End, found, stopped, endNumber, endTexts, isAnswer}
+use Rattle.definition.specs.Called.{Rooms, Left, joined, paths, listNumbers, zeros, written, delivered, unlessRefused}
+use Rattle.consults.specs.Tape.{endingOf}
+use Rattle.consults.specs.declared.Ending.{Ending}
+use Rattle.consults.specs.declared.Mark.{Mark}
+use Rattle.listing.specs.declared.Checked.{Checked}
+use Rattle.listing.specs.declared.Checked.the-variants.{Accepted, Refused}
+use Rattle.answer.specs.Meaning.{refusalBy}
+use Rattle.answer.specs.Walked.{textLength, numbersLength, Counted}
+use Rattle.answer.proofs.Endings.{length-of}
+use Rattle.answer.proofs.Filling.{length-numbers}
+
+-- an answer has a number up to 7
+answers : (e : End) → endNumber e ≤ 7 → isAnswer e ≡ true
+unfolding endNumber isAnswer refusalNumber
+answers (found w) h = refl
+answers (stopped (failed f)) h = refl
+answers (stopped (refused manifestBeyond)) h = absurd (let z : ⊥ = omega arith in z)
+answers (stopped (refused nameTwice)) h = absurd (let z : ⊥ = omega arith in z)
+answers (stopped (refused pathTooLong)) h = absurd (let z : ⊥ = omega arith in z)
+
+refuses : (e : End) → 7 < endNumber e → isAnswer e ≡ false
+unfolding endNumber isAnswer failureNumber
+refuses (found w) h = absurd (let z : ⊥ = omega arith in z)
+refuses (stopped (failed (NotFound s))) h = absurd (let z : ⊥ = omega arith in z)
+refuses (stopped (failed (Empty t))) h = absurd (let z : ⊥ = omega arith in z)
+refuses (stopped (failed (InvalidPackageTarget t k m))) h = absurd (let z : ⊥ = omega arith in z)
+refuses (stopped (failed (PackagePathNotExported s p))) h = absurd (let z : ⊥ = omega arith in z)
+refuses (stopped (failed (InvalidPackageConfig m))) h = absurd (let z : ⊥ = omega arith in z)
+refuses (stopped (failed (InvalidPackageConfigDirectory m))) h = absurd (let z : ⊥ = omega arith in z)
+refuses (stopped (failed (JsonError m))) h = absurd (let z : ⊥ = omega arith in z)
+refuses (stopped (refused r)) h = refl
+
+module _ (m : Rooms) (e : End) (l : List Consult) (x : Ending) (k : Mark) (g : Counted e l x k) where
+  number-of : x .number ≡ endNumber e
+  unfolding endingOf
+  number-of = ap (λ z. z .number) (g .ending)
+
+  pub own : 7 < x .number → delivered m e l ≡ zeros m (x .number)
+  unfolding delivered
+  own h = let n = number-of in rw (refuses e (omega arith), n)
+
+  module _ (a : x .number ≤ 7) where
+    is-answer : isAnswer e ≡ true
+    is-answer = let n = number-of in answers e (omega arith)
+
+    pub short-result : m .result < textLength x → delivered m e l ≡ zeros m 20
+    unfolding delivered
+    short-result h = rw (is-answer, lt-ltb (m .result) (length (joined (endTexts e))) (omega (arith, length-of x e (g .ending))))
+
+    module _ (r : textLength x ≤ m .result) where
+      fits-result : ltb (m .result) (length (joined (endTexts e))) ≡ false
+      fits-result = le-ltb (m .result) (length (joined (endTexts e))) (omega (arith, length-of x e (g .ending)))
+
+      pub short-numbers : m .numbers < numbersLength k → delivered m e l ≡ zeros m 21
+      unfolding delivered
+      short-numbers h = let c = g .count in rw (is-answer, fits-result, lt-ltb (m .numbers) (length (listNumbers l)) (omega (arith, length-numbers l)))
+
+      pub short-list : m .list < k .size → delivered m e l ≡ zeros m 21
+      unfolding delivered
+      short-list h = let c = g .size in rw (is-answer, fits-result, lt-ltb (m .list) (length (joined (paths l))) (omega arith), or-true)
+
+      pub all-fits : numbersLength k ≤ m .numbers → k .size ≤ m .list → delivered m e l ≡ written m e l
+      unfolding delivered
+      all-fits h j =
+          let c = g .count in
+          let s = g .size in
+          rw (is-answer, fits-result, le-ltb (m .numbers) (length (listNumbers l)) (omega (arith, length-numbers l)), le-ltb (m .list) (length (joined (paths l))) (omega arith))
+
+-- a check's verdict, and what was left accordingly
+module _ (m : Rooms) (o : Checked) (out due rest : Left) (d : due ≡ unlessRefused m (refusalBy o) rest) where
+  pub when-refused : (n : ℕ) → o ≡ Refused n → out ≡ zeros m n → out ≡ due
+  unfolding unlessRefused
+  when-refused n e h = h ∙ sym (d ∙ rw e)
+
+  pub when-accepted : o ≡ Accepted → out ≡ rest → out ≡ due
+  unfolding unlessRefused
+  when-accepted e h = h ∙ sym (d ∙ rw e)

@@ -1,0 +1,4 @@
+pub mod Spreading
+pub mod Endings
+pub mod Filling
+pub mod Delivering

@@ -1,0 +1,56 @@
+-- What the resolver leaves, for an end e and a list of consults l: how it ended, its counts, and what stands in the lent buffers where they
+-- reach that far.
+use mathlib.Core.Path.{_≡_}
+use mathlib.Core.List.{List, map}
+use Prim.Native.Nat.{ℕ, _+_, _*_, _≤_}
+use lib.ListN.{length, take, drop}
+use Rattle.definition.specs.Ask.{Consult}
+use Rattle.definition.specs.Manifest.{End, endTexts}
+use Rattle.definition.specs.Called.{joined, paths}
+use Rattle.laws.specs.WalkBounds.{AllFit}
+use Rattle.consults.specs.Tape.{packed, endingOf}
+use Rattle.consults.specs.declared.Ending.{Ending}
+use Rattle.consults.specs.declared.Mark.{Mark}
+
+-- a consult's length and state in one number
+abbrev pub packedOf : Consult → ℕ
+packedOf c = packed (length (c .path)) (c .state)
+
+-- an ending's texts, and the list numbers, have so many bytes and numbers
+abbrev pub textLength : Ending → ℕ
+textLength x = x .first + x .second + x .third
+
+abbrev pub numbersLength : Mark → ℕ
+numbersLength k = 2 + 2 * k .count
+
+-- the numbers are small: 01's limits
+pub record Small (x : Ending) (k : Mark) : Type 0 where
+  pub texts : textLength x ≤ 6157
+  pub count : k .count ≤ 18777
+  pub size : k .size ≤ 38455296
+
+pub record Counted (e : End) (l : List Consult) (x : Ending) (k : Mark) : Type 0 where
+  pub ending : x ≡ endingOf e
+  pub count : k .count ≡ length l
+  pub size : k .size ≡ length (joined (paths l))
+
+-- the list numbers, before they are spread
+pub record Listed (l : List Consult) (numbers : List ℕ) : Type 0 where
+  pub packs : 2 + length l ≤ length numbers → take (length l) (drop 2 numbers) ≡ map packedOf l
+  pub fits : AllFit l
+
+-- a text stands at a buffer's start
+abbrev pub Begins : List ℕ → List ℕ → Type 0
+Begins s buffer = length s ≤ length buffer → take (length s) buffer ≡ s
+
+pub record Walked (e : End) (l : List Consult) (x : Ending) (k : Mark) (r n t : List ℕ) : Type 0 where
+  pub counted : Counted e l x k
+  pub result : Begins (joined (endTexts e)) r
+  pub numbers : Listed l n
+  pub list : Begins (joined (paths l)) t
+
+-- the buffers reach that far
+pub record Room (x : Ending) (k : Mark) (r n t : ℕ) : Type 0 where
+  pub result : textLength x ≤ r
+  pub numbers : numbersLength k ≤ n
+  pub list : k .size ≤ t
