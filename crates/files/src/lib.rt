@@ -64,7 +64,7 @@ pub fn load_as_file<'a>(
         mark = out.mark;
         i += 1;
     }
-    next(mark)
+    consults::next(mark)
 }
 
 // LOAD_INDEX, one main file of the settings with the i-th extension.
@@ -126,7 +126,7 @@ fn load_main_file<'a>(
         mark = out.mark;
         i += 1;
     }
-    next(mark)
+    consults::next(mark)
 }
 
 // LOAD_INDEX(X)
@@ -156,5 +156,5 @@ pub fn load_index<'a>(
         mark = out.mark;
         i += 1;
     }
-    next(mark)
+    consults::next(mark)
 }

@@ -17,7 +17,7 @@ use Rattle.definition.specs.Settings.{Settings}
 use Rattle.definition.specs.Ask.{Listing, Step, go, stop, Ask, ret, end, asked, _>>=_, _>>_}
 use Rattle.definition.specs.Manifest.{pathTooLong, refusalNumber}
 use Rattle.definition.specs.Called.{seenBy}
-use Rattle.definition.specs.Walk.{Look, when, unless, perhaps, isDir, made, under, bare, notFound, LOAD-AS-FILE, LOAD-PACKAGE-EXPORTS, inScopeDir, goOn, asDirectory, asFileOrDirectory, inModules, inDirectory, lookup}
+use Rattle.definition.specs.Walk.{Look, when, unless, perhaps, isDir, made, under, bare, notFound, LOAD-AS-FILE, LOAD-AS-DIRECTORY, LOAD-PACKAGE-EXPORTS, inScopeDir, goOn, asDirectory, asFileOrDirectory, inModules, inDirectory, lookup}
 use Rattle.path.specs.Meaning.{pathAt}
 use denote.Enum.Declared.{tagOf, declared}
 use Rattle.consults.specs.declared.Ending.{Ending}
@@ -26,7 +26,7 @@ use Rattle.consults.specs.declared.Way.the-variants.{Next, Stopped}
 use Rattle.consults.specs.Tape.{Tape, put, Done, done-ret, done-bind, done-stop}
 use Rattle.consults.specs.Meaning.{Sees, consultOf, numbers, stepOf}
 use Rattle.resolver.specs.Routines.{goingOf, fileFirst, directoryOrFile, inPackage, loadPackage}
-use Rattle.consults.proofs.Steps.{made-long, made-fits, by-state}
+use Rattle.consults.proofs.Steps.{made-long, made-fits, by-state, is-dir, no-dir}
 use Rattle.consults.proofs.Climbs.{prefix, parent-take}
 use Rattle.consults.proofs.Ways.{bind-bind, way-passed, way-onward}
 use Rattle.consults.proofs.Way
@@ -88,6 +88,16 @@ module _ (G : Settings) {L : Listing Sees} (spec name nm bytes : Text) (n : ℕ)
     unfolding asFileOrDirectory fileFirst under directoryOrFile _>>_
     then-directory z g = made-fits bytes n e _ h (way-onward w _ d z g)
 
+-- LOAD_AS_DIRECTORY, or LOAD_AS_FILE
+module _ (G : Settings) (l q : Text) (s s₁ : Tape) (k : ℕ) (a : k ≡ asked (entryAt l q)) (e : s₁ ≡ put s (consultOf q k)) {s₂ : Tape} {r : Step Ending (Unit {0})} where
+  pub a-directory : k ≡ 1 → Done (seenBy G l) (LOAD-AS-DIRECTORY G (bare q)) s₁ s₂ r → Done (seenBy G l) (directoryOrFile G q) s s₂ r
+  unfolding directoryOrFile asDirectory
+  a-directory h g = is-dir G l q s s₁ k a e _ h g
+
+  pub no-directory : (k ≡ 1 → ⊥) → Done (seenBy G l) (LOAD-AS-FILE G (bare q)) s₁ s₂ r → Done (seenBy G l) (directoryOrFile G q) s s₂ r
+  unfolding directoryOrFile asDirectory
+  no-directory h g = no-dir G l q s s₁ k a e _ h g
+
 -- where DIR/NAME is a directory: its exports, and then b. and c.
 pub exports-loaded : (G : Settings) {L : Listing Sees} (spec name sub q : Text) {s s₁ : Tape} (w : Way) → Done L (LOAD-PACKAGE-EXPORTS G spec sub q) s s₁ (stepOf w) → Done L (goOn G spec name sub q true) s s₁ (goingOf w true)
 unfolding goOn _>>_
@@ -124,6 +134,26 @@ module _ (G : Settings) (spec name sub nm q l : Text) (s s₁ s₂ : Tape) (k : 
   pub package-on : {s₃ : Tape} {r : Step Ending (Unit {0})} → w ≡ Next → more ≡ true → Done (seenBy G l) (asFileOrDirectory G spec name nm) s₂ s₃ r → Done (seenBy G l) (inPackage G spec name sub nm q) s s₃ r
   unfolding when
   package-on z m f = going (done-bind _ (rw (z, m) at g) f)
+
+-- the node_modules of one directory: the directory was asked for, and then they were
+module _ (G : Settings) (spec name sub l d : Text) (s s₁ : Tape) (k : ℕ) (a : k ≡ asked (entryAt l d)) (e : s₁ ≡ put s (consultOf d k)) where
+  pub directory-none : (k ≡ 1 → ⊥) → Done (seenBy G l) (inDirectory G spec name sub d) s s₁ (go tt)
+  unfolding inDirectory when
+  directory-none h = no-dir G l d s s₁ k a e _ h done-ret
+
+  module _ (h : k ≡ 1) (bytes : Text) (n : ℕ) (p : pathAt bytes n ≡ normalizeWith d (text "node_modules")) where
+    pub directory-long : 2048 < n → Done (seenBy G l) (inDirectory G spec name sub d) s s₁ (stop (numbers 42 [] [] []))
+    unfolding inDirectory when under
+    directory-long f = is-dir G l d s s₁ k a e _ h (made-long bytes n p _ s₁ f)
+
+    module _ (f : n ≤ 2048) (s₂ : Tape) (j : ℕ) (b : j ≡ asked (entryAt l (take n bytes))) (i : s₂ ≡ put s₁ (consultOf (take n bytes) j)) where
+      pub modules-none : (j ≡ 1 → ⊥) → Done (seenBy G l) (inDirectory G spec name sub d) s s₂ (go tt)
+      unfolding inDirectory when under
+      modules-none z = is-dir G l d s s₁ k a e _ h (made-fits bytes n p _ f (no-dir G l (take n bytes) s₁ s₂ j b i _ z done-ret))
+
+      pub modules-in : {s₃ : Tape} {r : Step Ending (Unit {0})} → j ≡ 1 → Done (seenBy G l) (inModules G spec name sub (take n bytes)) s₂ s₃ r → Done (seenBy G l) (inDirectory G spec name sub d) s s₃ r
+      unfolding inDirectory when under
+      modules-in z g = is-dir G l d s s₁ k a e _ h (made-fits bytes n p _ f (is-dir G l (take n bytes) s₁ s₂ j b i _ z g))
 
 -- THE CLIMB. The k directories from p on, p first
 abbrev pub climbed : ℕ → Text → List Text
@@ -213,5 +243,5 @@ module _ (G : Settings) (start spec : Text) {L : Listing Sees} {s : Tape} where
   pub lookup-ended : {s₁ : Tape} (x : Ending) → Done L (loadPackage G start spec) s s₁ (stop x) → Done L (lookup G start spec) s s₁ (stop x)
   lookup-ended x d = then-none (done-stop _ d)
 
-  pub lookup-none : {s₁ s₂ : Tape} (x : Ending) → Done L (loadPackage G start spec) s s₁ (go tt) → Done L (end (notFound spec)) s₁ s₂ (stop x) → Done L (lookup G start spec) s s₂ (stop x)
+  pub lookup-none : {s₁ s₂ : Tape} (x : Ending) → Done L (loadPackage G start spec) s s₁ (go tt) → Done {A = ⊥} L (end (notFound spec)) s₁ s₂ (stop x) → Done L (lookup G start spec) s s₂ (stop x)
   lookup-none x d g = then-none (done-bind _ d g)

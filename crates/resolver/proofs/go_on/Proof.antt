@@ -1,4 +1,6 @@
 use borrow.Author.Tests.{not-true, not-false}
+use Rattle.directory.proofs.Rooms.{was-done}
+use Rattle.package_exports.proofs.Fits.{fits}
 use Rattle.resolver.proofs.Modules.{exports-loaded}
 use borrow.Author.Needs.{needs}
 use Rattle.resolver.proofs.go_on.Statement.{statement}
@@ -15,7 +17,8 @@ go-on-spec =
     (λ c κs. search needs)
     (λ c. search needs)
     (λ c. search needs)
-    (λ c. let w = c .before .before .before .before .without-directory .ensures in
+    (λ c.
+    let w = c .before .before .before .before .without-directory .ensures in
     let e = not-true (c .before .before .before .before .before .before .before .before .before .before .before .before .before .before .before .before .before .before .args .is-dir) (c .before .before .before .before .before .before .before .if1 .taken) in
     rw (w .0, e) (w .1 _ _ _))
     (λ c κs. search needs)
@@ -23,5 +26,8 @@ go-on-spec =
     (λ c. search needs)
     (λ c. search needs)
     (λ c. search needs)
-    (λ c. let e = not-false (c .before .before .before .before .before .before .before .before .before .before .before .before .before .before .before .before .before .before .before .before .before .before .before .before .before .args .is-dir) (c .before .before .before .before .before .before .before .before .before .before .before .before .before .before .if1 .left) in
-    rw e (exports-loaded _ _ _ _ _ (c .before .before .before .before .before .before .before .before .before .load-package-exports .result .way) (c .before .before .before .before .before .before .before .before .before .load-package-exports .ensures))))
+    (λ c.
+    let e = not-false (c .before .before .before .before .before .before .before .before .before .before .before .before .before .before .before .before .before .before .before .before .before .before .before .before .before .args .is-dir) (c .before .before .before .before .before .before .before .before .before .before .before .before .before .before .if1 .left) in
+    let x = c .before .before .before .before .before .before .before .before .before .load-package-exports in
+    let p = c .before .before .before .before .before .before .before .before .before .before .before .before .before .before .before .before .before .before .before .before .before .before .before .before .before .pre in
+    rw e (exports-loaded _ _ _ _ _ (x .result .way) (was-done (fits _ _ (p .0) (p .1)) (x .ensures)))))
