@@ -1,4 +1,4 @@
--- What the types of `resolver` mean.
+-- What the types of `consults` mean, and the steps of the definition that one function of `consults` or `files` does together.
 use mathlib.Core.List.{List, [], _∷_}
 use Prim.Native.Nat.{ℕ}
 use lib.ListN.{length, take}

@@ -13,7 +13,7 @@ use Rattle.json_text.specs.declared.TextAt.{TextAt}
 use Rattle.json_text.specs.Texts.{textOf, told, orEmpty}
 use Rattle.exports.specs.declared.Part.{Part}
 use Rattle.exports.specs.declared.Context.{Context}
-use Rattle.exports.specs.Contexts.{stringAt, partText, Inside, contextOf}
+use Rattle.exports.specs.Contexts.{stringAt, partText, Inside}
 use Rattle.exports.proofs.Places.{text-read, string-short}
 
 module _ (m : List ℕ) (p o : Part) (i : Inside m p) where

@@ -1,6 +1,6 @@
 -- A string as a target, taken apart.
-use mathlib.Core.Path.{_≡_, refl, sym, _∙_, ap}
-use mathlib.Core.Bool.{Bool, true, false, not, _&&_}
+use mathlib.Core.Path.{_≡_, refl, _∙_, ap}
+use mathlib.Core.Bool.{Bool, true, false, _&&_}
 use mathlib.Core.List.{List, [], _∷_, _++_, flatMap}
 use Prim.Native.Nat.{ℕ, zero, suc, _+_, _*_, _-_, _/_, _<_, _≤_}
 use native.Mathlib.Omega.{arith}
@@ -9,11 +9,10 @@ use lib.Dec.{eqb, ltb}
 use borrow.Author.Tests.{lt-ltb}
 use Rattle.definition.specs.Text.{text, if_then_else_, hash, question, containsText, startsWith, before, from, utf8, trail}
 use Rattle.laws.specs.TextSteps.{before-inside}
-use Rattle.definition.specs.Path.{Built, limited}
-use Rattle.definition.specs.Specifier.{Specifier, parsed, emptySpecifier, beforeFragment, body, unescape, pathBefore, orEmpty, parseSpecifier}
+use Rattle.definition.specs.Path.{limited}
+use Rattle.definition.specs.Specifier.{Specifier, parsed, emptySpecifier, body, unescape, pathBefore, orEmpty, parseSpecifier}
 use Rattle.definition.specs.Exports as exports
-use Rattle.definition.specs.Exports.{Request, failed, withQueryFragment, targetPath, normalizeStringTarget, invalidTarget, stringTarget}
-use Rattle.path.specs.declared.PathBuf.{PathBuf}
+use Rattle.definition.specs.Exports.{Request, withQueryFragment, targetPath, normalizeStringTarget, invalidTarget, stringTarget}
 use Rattle.path.specs.Meaning.{pathOf}
 use Rattle.specifier.specs.declared.Specifier as answer
 use Rattle.specifier.specs.Meaning.{parts, noPath, partsOf, meant}

@@ -3,7 +3,6 @@ use Rattle.directory.specs.Routines.{ifDirectory}
 use Rattle.consults.specs.Tape.{done-ret}
 use Rattle.consults.proofs.Steps.{is-dir, no-dir}
 use Rattle.directory.proofs.Rooms.{was-done, is-done, is-refused, enough, too-little}
-use native.Mathlib.Omega.{arith}
 use borrow.Author.Needs.{needs}
 use Rattle.directory.proofs.load_if_directory.Statement.{statement}
 use Rattle.directory.proofs.load_if_directory.Tie as tie
