@@ -5,11 +5,12 @@ use native.Mathlib.Omega.{arith}
 use mathlib.Core.Bool.{Bool, true, false}
 use mathlib.Core.List.{List, _++_}
 use lib.ListN.{length, drop, take, getD, length-append, length-take}
-use lib.Seq.{length-take-le, take-length, take-take, getD-take, paste, take-paste}
+use lib.Seq.{length-take-le, take-take, getD-take}
 use lib.Dec.{leb, ltb}
 use borrow.Author.Tests.{le-leb, lt-leb, le-ltb, lt-ltb, leb-true, leb-false}
-use Rattle.definition.specs.Text.{text, slash, contains, beforeLast}
+use Rattle.definition.specs.Text.{text, slash, contains, beforeLast, overwrite}
 use Rattle.definition.specs.Path.{Built, built, tooLong, andPath, limited, push, parent, nameOf, addExtension, addNameAndExtension}
+use Rattle.laws.specs.TextLaws.{overwrite-upto}
 use Rattle.laws.specs.PathLaws.{limited-fits, limited-long, limited-append, then-append, push-empty, push-slash, push-plain}
 use Rattle.laws.specs.PathSteps.{parent-none, parent-root, parent-some, name-behind, name-whole, last-inside, last-missing, last-found}
 use Rattle.path.specs.Meaning.{pathAt, isTooLong}
@@ -23,7 +24,7 @@ module _ (b : List ℕ) (n : ℕ) where
   unfolding pathAt
   at-long h = rw (lt-leb _ _ h)
 
--- `put`: what was over-long, what gets over-long, and what the loop leaves
+-- `put`: what was over-long, what gets over-long, and what fits
 module _ (b : List ℕ) (n : ℕ) (t : List ℕ) (w : length b ≡ 2048) where
   pub put-over : 2048 < n → pathAt b 2049 ≡ andPath (pathAt b n) (λ p. addExtension p t)
   put-over h = rw (at-long b n h) (at-long b 2049 (omega arith))
@@ -35,12 +36,16 @@ module _ (b : List ℕ) (n : ℕ) (t : List ℕ) (w : length b ≡ 2048) where
         let k : length (take n b) ≡ n = length-take-le n b (omega arith) in
         rw (at-fits b n h, limited-long (take n b ++ t) (omega (arith, length-append (take n b) t))) (at-long b 2049 (omega arith))
 
-    pub put-fits : (c : List ℕ) (i : ℕ) → n + length t ≤ 2048 → i ≡ length t → c ≡ paste b n t i → pathAt c (n + i) ≡ andPath (pathAt b n) (λ p. addExtension p t)
+    pub put-fits : n + length t ≤ 2048 → pathAt (overwrite n t b) (n + length t) ≡ andPath (pathAt b n) (λ p. addExtension p t)
     unfolding addExtension
-    put-fits c i g e f =
+    put-fits g =
         let k : length (take n b) ≡ n = length-take-le n b (omega arith) in
-        rw (at-fits b n h, limited-fits (take n b ++ t) (omega (arith, length-append (take n b) t)), f, e)
-        (at-fits (paste b n t (length t)) (n + length t) g ∙ ap built (take-paste b n t (length t) (omega arith) (omega arith) ∙ rw (take-length t)))
+        rw (at-fits b n h, limited-fits (take n b ++ t) (omega (arith, length-append (take n b) t)), at-fits (overwrite n t b) (n + length t) g) (ap built (overwrite-upto n t b (omega arith)))
+
+-- a text at the start of the buffer
+pub put-first : (b t : List ℕ) → andPath (pathAt b 0) (λ p. addExtension p t) ≡ limited t
+unfolding addExtension
+put-first b t = rw (at-fits b 0 (omega arith))
 
 -- `join`: at an empty path, behind a slash, and behind another byte
 module _ (b t : List ℕ) where
@@ -78,7 +83,7 @@ up-parent b n r h k e =
     let l : r ≤ n = omega (arith, length-take n b) in
     rw (at-fits b n h, e, take-take r n b l) (at-fits b r (omega arith))
 
--- `append_main_file`: three texts, one after the other
+-- `add_name_and_extension`: three texts, one after the other
 pub put-three : (b : Built) (name e : List ℕ) → andPath (andPath (andPath b (λ p. addExtension p (text "/"))) (λ p. addExtension p name)) (λ p. addExtension p e) ≡ andPath b (λ p. addNameAndExtension p name e)
 unfolding addExtension addNameAndExtension
 put-three b name e =

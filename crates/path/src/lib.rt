@@ -22,7 +22,7 @@ pub fn first(b: &[u8], n: usize) -> &[u8]
 }
 
 // Writes a text behind the first n bytes. The answer is the new length.
-fn put(b: &mut [u8; 2048], n: usize, t: &[u8]) -> usize
+fn put(b: &mut [u8], n: usize, t: &[u8]) -> usize
     requires { ⌜ length (now b) ≡ 2048 ⌝ }
     ensures { λ r. ⌜ length (now (b .exit)) ≡ 2048 ⌝ }
     ensures { λ r. ⌜ pathAt (now (b .exit)) r ≡ andPath (pathAt (now (b .entry)) n) (λ p. addExtension p (now (t .entry))) ⌝ }
@@ -33,16 +33,12 @@ fn put(b: &mut [u8; 2048], n: usize, t: &[u8]) -> usize
     if t.len() > 2048 - n {
         return 2049;
     }
-    let mut i = 0;
-    while i < t.len() {
-        b[n + i] = t[i];
-        i += 1;
-    }
-    n + i
+    text::copy_at(b, n, t);
+    n + t.len()
 }
 
 // Pushes a part: a slash comes before it, unless the path is empty or ends in one.
-fn join(b: &mut [u8; 2048], n: usize, part: &[u8]) -> usize
+fn join(b: &mut [u8], n: usize, part: &[u8]) -> usize
     requires { ⌜ length (now b) ≡ 2048 ⌝ }
     ensures { λ r. ⌜ length (now (b .exit)) ≡ 2048 ⌝ }
     ensures { λ r. ⌜ pathAt (now (b .exit)) r ≡ andPath (pathAt (now (b .entry)) n) (λ p. limited (push p (now (part .entry)))) ⌝ }
@@ -101,6 +97,19 @@ fn up(b: &[u8], n: usize) -> usize
     parent_len(first(b, n))
 }
 
+// `put` and `join` in the whole of an array.
+fn append_at(b: &mut [u8; 2048], n: usize, t: &[u8]) -> usize
+    ensures { λ r. ⌜ pathAt (now (b .exit)) r ≡ andPath (pathAt (now (b .entry)) n) (λ p. addExtension p (now (t .entry))) ⌝ }
+{
+    put(b, n, t)
+}
+
+fn push_at(b: &mut [u8; 2048], n: usize, part: &[u8]) -> usize
+    ensures { λ r. ⌜ pathAt (now (b .exit)) r ≡ andPath (pathAt (now (b .entry)) n) (λ p. limited (push p (now (part .entry)))) ⌝ }
+{
+    join(b, n, part)
+}
+
 impl PathBuf {
     pub fn new() -> PathBuf
         ensures { λ r. ⌜ pathOf r ≡ built [] ⌝ }
@@ -116,7 +125,7 @@ impl PathBuf {
         ensures { λ r. ⌜ pathOf r ≡ andPath (pathOf self) (λ p. addExtension p (now (ext .entry))) ⌝ }
     {
         let n = self.len;
-        self.len = put(&mut self.bytes, n, ext);
+        self.len = append_at(&mut self.bytes, n, ext);
         self
     }
 
@@ -124,7 +133,7 @@ impl PathBuf {
         ensures { λ r. ⌜ pathOf r ≡ andPath (pathOf self) (λ p. limited (push p (now (part .entry)))) ⌝ }
     {
         let n = self.len;
-        self.len = join(&mut self.bytes, n, part);
+        self.len = push_at(&mut self.bytes, n, part);
         self
     }
 
@@ -133,25 +142,6 @@ impl PathBuf {
     {
         let n = self.len;
         self.len = up(&self.bytes, n);
-        self
-    }
-
-    // `add_name_and_extension`: the slash comes even behind "/"
-    pub fn append_main_file(mut self, name: &[u8], ext: &[u8]) -> PathBuf
-        ensures { λ r. ⌜ pathOf r ≡ andPath (pathOf self) (λ p. addNameAndExtension p (now (name .entry)) (now (ext .entry))) ⌝ }
-    {
-        let n = self.len;
-        let behind_slash = put(&mut self.bytes, n, b"/");
-        let behind_name = put(&mut self.bytes, behind_slash, name);
-        self.len = put(&mut self.bytes, behind_name, ext);
-        self
-    }
-
-    pub fn push_manifest(mut self) -> PathBuf
-        ensures { λ r. ⌜ pathOf r ≡ andPath (pathOf self) (λ p. limited (manifestOf p)) ⌝ }
-    {
-        let n = self.len;
-        self.len = join(&mut self.bytes, n, b"package.json");
         self
     }
 
@@ -170,8 +160,6 @@ impl PathBuf {
 
 // Pushes the component of one part between slashes, as `push_normalized_component`; an empty part and "." are none.
 fn push_part(b: &mut [u8; 2048], n: usize, part: &[u8]) -> usize
-    requires { ⌜ length (now b) ≡ 2048 ⌝ }
-    ensures { λ r. ⌜ length (now (b .exit)) ≡ 2048 ⌝ }
     ensures { λ r. ⌜ pathAt (now (b .exit)) r ≡ andPath (pathAt (now (b .entry)) n) (λ p. pushAll (component (now (part .entry))) p) ⌝ }
 {
     if part.len() == 0 {
@@ -183,12 +171,11 @@ fn push_part(b: &mut [u8; 2048], n: usize, part: &[u8]) -> usize
     if text::equal(part, b"..") {
         return up(b, n);
     }
-    join(b, n, part)
+    push_at(b, n, part)
 }
 
 // Pushes the components of a relative path.
 fn push_parts(b: &mut [u8; 2048], from: usize, sub: &[u8]) -> usize
-    requires { ⌜ length (now b) ≡ 2048 ⌝ }
     ensures { λ r. ⌜ pathAt (now (b .exit)) r ≡ andPath (pathAt (now (b .entry)) from) (λ p. pushAll (parts (now (sub .entry))) p) ⌝ }
 {
     let mut n = from;
@@ -203,27 +190,53 @@ fn push_parts(b: &mut [u8; 2048], from: usize, sub: &[u8]) -> usize
     }
 }
 
-// A subpath from a base, with "./" before it: "." is dropped, ".." pops, and an empty or absolute one is taken from the base too.
-pub fn normalize_below(base: &[u8], sub: &[u8]) -> PathBuf
-    ensures { λ r. ⌜ pathOf r ≡ normalizeWith (now (base .entry)) (text "./" ++ now (sub .entry)) ⌝ }
+// The functions below write the path that they build to the bytes of a `PathBuf`, so that nothing is copied, and answer its length: one over 2,048
+// where the path is over-long.
+
+// A directory's manifest.
+pub fn manifest_of(dir: &[u8], out: &mut [u8; 2048]) -> usize
+    ensures { λ r. ⌜ pathAt (now (out .exit)) r ≡ andPath (limited (now (dir .entry))) (λ p. limited (manifestOf p)) ⌝ }
 {
-    let mut p = PathBuf::from(base);
-    let n = p.len;
-    p.len = push_parts(&mut p.bytes, n, sub);
-    p
+    let n = append_at(out, 0, dir);
+    push_at(out, n, b"package.json")
+}
+
+pub fn add_extension(path: &[u8], ext: &[u8], out: &mut [u8; 2048]) -> usize
+    ensures { λ r. ⌜ pathAt (now (out .exit)) r ≡ andPath (limited (now (path .entry))) (λ p. addExtension p (now (ext .entry))) ⌝ }
+{
+    let n = append_at(out, 0, path);
+    append_at(out, n, ext)
+}
+
+// The slash comes even behind "/".
+pub fn add_name_and_extension(path: &[u8], name: &[u8], ext: &[u8], out: &mut [u8; 2048]) -> usize
+    ensures { λ r. ⌜ pathAt (now (out .exit)) r ≡ andPath (limited (now (path .entry))) (λ p. addNameAndExtension p (now (name .entry)) (now (ext .entry))) ⌝ }
+{
+    let n = append_at(out, 0, path);
+    let behind_slash = append_at(out, n, b"/");
+    let behind_name = append_at(out, behind_slash, name);
+    append_at(out, behind_name, ext)
+}
+
+// A subpath from a base, with "./" before it: "." is dropped, ".." pops, and an empty or absolute one is taken from the base too.
+pub fn normalize_below(base: &[u8], sub: &[u8], out: &mut [u8; 2048]) -> usize
+    ensures { λ r. ⌜ pathAt (now (out .exit)) r ≡ normalizeWith (now (base .entry)) (text "./" ++ now (sub .entry)) ⌝ }
+{
+    let n = append_at(out, 0, base);
+    push_parts(out, n, sub)
 }
 
 // The same without "./": an empty or absolute subpath is the answer itself.
-pub fn normalize_with(base: &[u8], sub: &[u8]) -> PathBuf
-    ensures { λ r. ⌜ pathOf r ≡ normalizeWith (now (base .entry)) (now (sub .entry)) ⌝ }
+pub fn normalize_with(base: &[u8], sub: &[u8], out: &mut [u8; 2048]) -> usize
+    ensures { λ r. ⌜ pathAt (now (out .exit)) r ≡ normalizeWith (now (base .entry)) (now (sub .entry)) ⌝ }
 {
     if sub.len() == 0 {
-        return PathBuf::from(sub);
+        return append_at(out, 0, sub);
     }
     if sub[0] == b'/' {
-        return PathBuf::from(sub);
+        return append_at(out, 0, sub);
     }
-    normalize_below(base, sub)
+    normalize_below(base, sub, out)
 }
 
 // The "/" of an absolute path; nothing of any other.
@@ -248,34 +261,31 @@ fn pops(p: &[u8]) -> bool
 
 // As `push_part`, but ".." stays where nothing is left to pop.
 fn push_relative_part(b: &mut [u8; 2048], n: usize, part: &[u8]) -> usize
-    requires { ⌜ length (now b) ≡ 2048 ⌝ }
-    ensures { λ r. ⌜ length (now (b .exit)) ≡ 2048 ⌝ }
     ensures { λ r. ⌜ pathAt (now (b .exit)) r ≡ andPath (pathAt (now (b .entry)) n) (λ p. limited (pushRelative (component (now (part .entry))) p)) ⌝ }
 {
     if text::equal(part, b"..") {
         if !pops(first(b, n)) {
-            return join(b, n, part);
+            return push_at(b, n, part);
         }
     }
     push_part(b, n, part)
 }
 
 // A path without ".", and without ".." behind a component.
-pub fn normalize_relative(p: &[u8]) -> PathBuf
-    ensures { λ r. ⌜ pathOf r ≡ andPath (limited (now (p .entry))) (λ q. built (normalizeRelative q)) ⌝ }
+pub fn normalize_relative(p: &[u8], out: &mut [u8; 2048]) -> usize
+    ensures { λ r. ⌜ pathAt (now (out .exit)) r ≡ andPath (limited (now (p .entry))) (λ q. built (normalizeRelative q)) ⌝ }
 {
     if p.len() > 2048 {
-        return PathBuf::from(p);
+        return append_at(out, 0, p);
     }
     let head = root(p);
-    let mut r = PathBuf::from(head);
+    let mut n = append_at(out, 0, head);
     let mut at = head.len();
     loop {
         let e = text::find(p, b'/', at);
-        let n = r.len;
-        r.len = push_relative_part(&mut r.bytes, n, &p[at..e]);
+        n = push_relative_part(out, n, &p[at..e]);
         if e >= p.len() {
-            return r;
+            return n;
         }
         at = e + 1;
     }

@@ -49,8 +49,39 @@ fn is(p: PathBuf, t: &[u8]) -> bool {
     text::equal(path::first(&p.bytes, n), t)
 }
 
+fn with(base: &[u8], sub: &[u8]) -> PathBuf {
+    let mut p = PathBuf::new();
+    p.len = path::normalize_with(base, sub, &mut p.bytes);
+    p
+}
+
+fn relative(path: &[u8]) -> PathBuf {
+    let mut p = PathBuf::new();
+    p.len = path::normalize_relative(path, &mut p.bytes);
+    p
+}
+
+fn extended(path: &[u8], ext: &[u8]) -> PathBuf {
+    let mut p = PathBuf::new();
+    p.len = path::add_extension(path, ext, &mut p.bytes);
+    p
+}
+
+fn main_file(path: &[u8], name: &[u8], ext: &[u8]) -> PathBuf {
+    let mut p = PathBuf::new();
+    p.len = path::add_name_and_extension(path, name, ext, &mut p.bytes);
+    p
+}
+
+fn manifest(dir: &[u8]) -> PathBuf {
+    let mut p = PathBuf::new();
+    p.len = path::manifest_of(dir, &mut p.bytes);
+    p
+}
+
 fn built(which: u8, row: &[u8]) -> bool {
-    let p = PathBuf::from(field(row, 1));
+    let a = field(row, 1);
+    let p = PathBuf::from(a);
     if which == b'+' {
         return is(p.push(field(row, 2)), field(row, 3));
     }
@@ -61,12 +92,12 @@ fn built(which: u8, row: &[u8]) -> bool {
         return is(p.append(field(row, 2)), field(row, 3));
     }
     if which == b'i' {
-        return is(
-            p.append_main_file(field(row, 2), field(row, 3)),
-            field(row, 4),
-        );
+        return is(main_file(a, field(row, 2), field(row, 3)), field(row, 4));
     }
-    is(p.push_manifest(), field(row, 2))
+    if which == b'e' {
+        return is(extended(a, field(row, 2)), field(row, 3));
+    }
+    is(manifest(a), field(row, 2))
 }
 
 fn row_is(row: &[u8]) -> bool {
@@ -77,10 +108,10 @@ fn row_is(row: &[u8]) -> bool {
     let a = field(row, 1);
     let b = field(row, 2);
     if which == b'w' {
-        return is(path::normalize_with(a, b), field(row, 3));
+        return is(with(a, b), field(row, 3));
     }
     if which == b'r' {
-        return is(path::normalize_relative(a), b);
+        return is(relative(a), b);
     }
     if which == b'x' {
         return path::is_invalid_exports_target(a) == text::equal(b, b"invalid");
@@ -140,10 +171,10 @@ fn limits(a: &[u8]) -> usize {
     n = tick(n, over(p.push(path::first(a, 8))));
     n = tick(n, has(p.append(path::first(a, 8)), 2048));
     n = tick(n, over(p.append(path::first(a, 9))));
-    n = tick(n, has(p.append_main_file(b"inde", b".js"), 2048));
-    n = tick(n, over(p.append_main_file(b"index", b".js")));
-    n = tick(n, has(path::normalize_with(base, b"./aaaaaaa"), 2048));
-    n = tick(n, over(path::normalize_with(base, b"./aaaaaaaa")));
+    n = tick(n, has(main_file(base, b"inde", b".js"), 2048));
+    n = tick(n, over(main_file(base, b"index", b".js")));
+    n = tick(n, has(with(base, b"./aaaaaaa"), 2048));
+    n = tick(n, over(with(base, b"./aaaaaaaa")));
     n
 }
 
@@ -151,29 +182,28 @@ fn limits(a: &[u8]) -> usize {
 fn more_limits(a: &[u8]) -> usize {
     let base = path::first(a, 2040);
     let mut n: usize = 0;
-    n = tick(n, over(path::normalize_with(base, b"aaaaaaaa/..")));
-    n = tick(n, has(path::normalize_with(base, b"aaaaaaa/../b"), 2042));
-    n = tick(
-        n,
-        has(path::normalize_with(path::first(a, 2048), b"./."), 2048),
-    );
-    n = tick(n, over(path::normalize_with(path::first(a, 2049), b"..")));
-    n = tick(n, has(path::normalize_with(path::first(a, 2049), b"/b"), 2));
-    n = tick(n, over(path::normalize_with(b"/", a)));
-    n = tick(n, has(path::normalize_relative(path::first(a, 2048)), 2048));
-    n = tick(n, over(path::normalize_relative(path::first(a, 2049))));
+    n = tick(n, over(with(base, b"aaaaaaaa/..")));
+    n = tick(n, has(with(base, b"aaaaaaa/../b"), 2042));
+    n = tick(n, has(with(path::first(a, 2048), b"./."), 2048));
+    n = tick(n, over(with(path::first(a, 2049), b"..")));
+    n = tick(n, has(with(path::first(a, 2049), b"/b"), 2));
+    n = tick(n, over(with(b"/", a)));
+    n = tick(n, has(relative(path::first(a, 2048)), 2048));
+    n = tick(n, over(relative(path::first(a, 2049))));
     n
 }
 
 // What was over-long stays so.
-fn stays_over(p: PathBuf) -> usize {
+fn stays_over(a: &[u8]) -> usize {
+    let p = PathBuf::from(a);
     let mut n: usize = 0;
     n = tick(n, over(p.push(b"a")));
     n = tick(n, over(p.push(b"")));
     n = tick(n, over(p.pop()));
     n = tick(n, over(p.append(b"")));
-    n = tick(n, over(p.append_main_file(b"", b"")));
-    n = tick(n, over(p.push_manifest()));
+    n = tick(n, over(main_file(a, b"", b"")));
+    n = tick(n, over(extended(a, b"")));
+    n = tick(n, over(manifest(a)));
     n
 }
 
@@ -209,12 +239,12 @@ fn main() {
     report(
         b"methods",
         rows(
-            b"+||a|a\n+|/|a|/a\n+|/a|b|/a/b\n+|/a/|b|/a/b\n+|/a||/a/\n-|/a/b|/a\n-|/a|/\n-|/|/\n-|a|\n-|a/b|a\n-||\n.|/a|.js|/a.js\n.|||\ni|/a|index|.js|/a/index.js\ni|/|index|.js|//index.js\nm|/a|/a/package.json\nm|/|/package.json\np|/a/b|/a\np|/a|/\np|/|/\np|a|\np||\nn|/a/b|b\nn|/a|a\nn|a|a\nn|/|\n",
+            b"+||a|a\n+|/|a|/a\n+|/a|b|/a/b\n+|/a/|b|/a/b\n+|/a||/a/\n-|/a/b|/a\n-|/a|/\n-|/|/\n-|a|\n-|a/b|a\n-||\n.|/a|.js|/a.js\n.|||\ne|/a|.js|/a.js\ne|||\ni|/a|index|.js|/a/index.js\ni|/|index|.js|//index.js\nm|/a|/a/package.json\nm|/|/package.json\np|/a/b|/a\np|/a|/\np|/|/\np|a|\np||\nn|/a/b|b\nn|/a|a\nn|a|a\nn|/|\n",
         ),
-        26,
+        28,
     );
     let a = [b'a'; 2049];
     report(b"limits", limits(&a), 10);
     report(b"more limits", more_limits(&a), 8);
-    report(b"over-long", stays_over(PathBuf::from(&a)), 6);
+    report(b"over-long", stays_over(&a), 7);
 }

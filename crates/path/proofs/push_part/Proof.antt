@@ -9,13 +9,13 @@ pub push-part-spec : {M : Type 1} → statement M
 push-part-spec =
     tie.close
     (tie.spec
-    (λ c. (c .before .before .pre, push-none _ _ _ (component-empty _ (c .if1 .taken))))
+    (λ c. push-none _ _ _ (component-empty _ (c .if1 .taken)))
     (λ c. search needs)
     (λ c κs. search needs)
-    (λ c. (c .before .before .before .before .before .pre, push-none _ _ _ (component-dot _ (sym (c .before .equal .ensures) ∙ c .if2 .taken))))
+    (λ c. push-none _ _ _ (component-dot _ (sym (c .before .equal .ensures) ∙ c .if2 .taken)))
     (λ c. search needs)
     (λ c κs. search needs)
     (λ c κs. search needs)
-    (λ c. (c .before .before .before .before .before .before .before .before .before .before .before .pre, c .up .ensures ∙ push-up _ _ _ (sym (c .before .before .before .before .equal2 .ensures) ∙ c .before .before .before .if3 .taken)))
+    (λ c. c .up .ensures ∙ push-up _ _ _ (sym (c .before .before .before .before .equal2 .ensures) ∙ c .before .before .before .if3 .taken))
     (λ c κs. search needs)
-    (λ c. (c .join .ensures .0, c .join .ensures .1 ∙ push-name _ _ _ (component-name _ (c .before .before .before .before .before .before .before .before .if1 .left) (sym (c .before .before .before .before .before .before .equal .ensures) ∙ c .before .before .before .before .before .if2 .left) (sym (c .before .before .before .equal2 .ensures) ∙ c .before .before .if3 .left)))))
+    (λ c. c .push-at .ensures ∙ push-name _ _ _ (component-name _ (c .before .before .before .before .before .before .before .before .if1 .left) (sym (c .before .before .before .before .before .before .equal .ensures) ∙ c .before .before .before .before .before .if2 .left) (sym (c .before .before .before .equal2 .ensures) ∙ c .before .before .if3 .left))))

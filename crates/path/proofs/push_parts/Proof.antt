@@ -14,7 +14,7 @@ use Rattle.path.proofs.push_parts.Tie as tie
 
 abbrev Inv-loop : tie.InvT-loop
 Inv-loop b₀ from sub n₀ at₀ b n at =
-    (at ≤ length sub) × (length b ≡ 2048) × (andPath (pathAt b n) (λ p. pushAll (parts (drop at sub)) p) ≡ andPath (pathAt b₀ from) (λ p. pushAll (parts sub) p))
+    (at ≤ length sub) × (andPath (pathAt b n) (λ p. pushAll (parts (drop at sub)) p) ≡ andPath (pathAt b₀ from) (λ p. pushAll (parts sub) p))
 
 abbrev μ-loop : tie.MeasureT-loop
 μ-loop b₀ from sub n₀ at₀ b n at = length sub - at
@@ -25,13 +25,13 @@ push-parts-spec =
     (tie.spec
     Inv-loop
     μ-loop
-    (λ c. (search needs, c .before .pre, refl))
+    (λ c. (search needs, refl))
     (λ c κs. search needs)
     (λ c. search needs)
     (λ c. search needs)
     (λ c. first-inside slash _ _ _ (c .before .find .ensures) (c .before .before .loop .inv .0))
-    (λ c κs. c .before .before .before .loop .inv .1)
-    (λ c. with-last (pathAt (c .before .before .before .before .before .loop .b) (c .before .before .before .before .before .loop .n)) _ _ _ _ (c .before .before .before .before .find .ensures) (c .before .push-part .ensures .1) (c .if1 .taken) ∙ c .before .before .before .before .before .loop .inv .2)
+    (λ c κs. search needs)
+    (λ c. with-last (pathAt (c .before .before .before .before .before .loop .b) (c .before .before .before .before .before .loop .n)) _ _ _ _ (c .before .before .before .before .find .ensures) (c .before .push-part .ensures) (c .if1 .taken) ∙ c .before .before .before .before .before .loop .inv .1)
     (λ c. search needs)
     (λ c. search needs)
-    (λ c. (omega arith, c .before .push-part .ensures .0, with-more (pathAt (c .before .before .before .before .before .loop .b) (c .before .before .before .before .before .loop .n)) _ _ _ _ (c .before .before .before .before .find .ensures) (c .before .push-part .ensures .1) (c .if1 .left) ∙ c .before .before .before .before .before .loop .inv .2)))
+    (λ c. (omega arith, with-more (pathAt (c .before .before .before .before .before .loop .b) (c .before .before .before .before .before .loop .n)) _ _ _ _ (c .before .before .before .before .find .ensures) (c .before .push-part .ensures) (c .if1 .left) ∙ c .before .before .before .before .before .loop .inv .1)))

@@ -17,8 +17,8 @@ push-relative-part-spec =
     (λ c κs. search needs)
     (λ c κs. search needs)
     (λ c κs. search needs)
-    (λ c. (c .join .ensures .0, c .join .ensures .1 ∙ relative-stays _ _ _ (sym (c .before .before .before .before .before .before .before .before .equal .ensures) ∙ c .before .before .before .before .before .before .before .if1 .taken) (sym (c .before .before .before .pops .ensures ∙ ap pops (c .before .before .before .before .first .ensures)) ∙ not-true _ (c .before .before .if2 .taken))))
+    (λ c. c .push-at .ensures ∙ relative-stays _ _ _ (sym (c .before .before .before .before .before .before .before .before .equal .ensures) ∙ c .before .before .before .before .before .before .before .if1 .taken) (sym (c .before .before .before .pops .ensures ∙ ap pops (c .before .before .before .before .first .ensures)) ∙ not-true _ (c .before .before .if2 .taken)))
     (λ c κs. search needs)
     (λ c.
     let e = c .before .before .before .equal .ensures in
-    (c .push-part .ensures .0, c .push-part .ensures .1 ∙ relative-same _ _ _ (⊎-elim (λ w h. sym (w .4 .ensures ∙ ap pops (w .3 .ensures)) ∙ not-false _ (w .5 .left)) (λ w h. absurd (true≢false (sym h ∙ sym e ∙ w .left))) (c .before .before .if1 .came)))))
+    c .push-part .ensures ∙ relative-same _ _ _ (⊎-elim (λ w h. sym (w .4 .ensures ∙ ap pops (w .3 .ensures)) ∙ not-false _ (w .5 .left)) (λ w h. absurd (true≢false (sym h ∙ sym e ∙ w .left))) (c .before .before .if1 .came))))
