@@ -12,7 +12,7 @@ ghost use Rattle.definition.specs.Settings.{Settings};
 ghost use Rattle.definition.specs.Called.{seenBy};
 ghost use Rattle.definition.specs.Walk.{notFound, tryFile};
 ghost use Rattle.listing.specs.Meaning.{seen};
-ghost use Rattle.path.specs.Meaning.{pathOf};
+ghost use Rattle.path.specs.Meaning.{pathAt};
 ghost use Rattle.consults.specs.Tape.{most, packed, put, Done};
 ghost use Rattle.consults.specs.Meaning.{tapeOf, consultOf, stepOf, place, numbers, Sees, tryPath, manifestFound, manifestIn, readOf, seek, soughtOf};
 
@@ -200,10 +200,11 @@ pub fn not_found(spec: &[u8], result: &mut [u8]) -> Ending
     finish(1, spec, b"", b"", result)
 }
 
-// A path that was built is tried as a file; an over-long one is refused as 42.
+// A path of n bytes that was built is tried as a file; an over-long one is refused as 42.
 pub fn try_path<'a>(
     l: &[u8],
-    p: PathBuf,
+    bytes: &[u8],
+    n: usize,
     query: &'a [u8],
     fragment: &'a [u8],
     result: &mut [u8],
@@ -211,15 +212,14 @@ pub fn try_path<'a>(
     text: &mut [u8],
     m: Mark,
 ) -> Out
-    ensures { λ r. ⌜ ((G : Settings) → Done (seenBy G (now (l .entry))) (tryPath G (pathOf p) (now (query .entry)) (now (fragment .entry))) (tapeOf (now (result .entry)) (now (nums .entry)) (now (text .entry)) m) (tapeOf (now (result .exit)) (now (nums .exit)) (now (text .exit)) (r .mark)) (stepOf (r .way))) ⌝ }
+    ensures { λ r. ⌜ ((G : Settings) → Done (seenBy G (now (l .entry))) (tryPath G (pathAt (now (bytes .entry)) n) (now (query .entry)) (now (fragment .entry))) (tapeOf (now (result .entry)) (now (nums .entry)) (now (text .entry)) m) (tapeOf (now (result .exit)) (now (nums .exit)) (now (text .exit)) (r .mark)) (stepOf (r .way))) ⌝ }
 {
-    let n = p.len;
     if n > 2048 {
         return refused(42, m);
     }
     try_file(
         l,
-        path::first(&p.bytes, n),
+        path::first(bytes, n),
         query,
         fragment,
         result,
@@ -263,19 +263,25 @@ fn opened_state(found: listing::Found) -> u8
     }
 }
 
-// package.json in one directory: one consult, unless its path is over-long.
-fn read_manifest(l: &[u8], dir: &[u8], nums: &mut [u32], text: &mut [u8], m: Mark) -> Read
+// package.json in one directory: one consult, unless its path is over-long. The path is built in the bytes that are lent.
+fn read_manifest(
+    l: &[u8],
+    dir: &[u8],
+    bytes: &mut [u8; 2048],
+    nums: &mut [u32],
+    text: &mut [u8],
+    m: Mark,
+) -> Read
     ensures { λ r. ⌜ ((G : Settings) (result : List ℕ) → Done (seenBy G (now (l .entry))) (manifestIn (now (dir .entry))) (tapeOf result (now (nums .entry)) (now (text .entry)) m) (tapeOf result (now (nums .exit)) (now (text .exit)) (r .mark)) (readOf G (now (l .entry)) (r .manifest))) ⌝ }
 {
-    let p = PathBuf::from(dir).push_manifest();
-    let n = p.len;
+    let n = path::manifest_path(dir, bytes);
     if n > 2048 {
         return Read {
             manifest: Manifest::OverLong,
             mark: m,
         };
     }
-    let path = path::first(&p.bytes, n);
+    let path = path::first(bytes, n);
     let found = listing::search(l, path);
     Read {
         manifest: manifest_of(found),
@@ -309,12 +315,13 @@ pub fn find_package_json(
 ) -> Nearest
     ensures { λ r. ⌜ ((G : Settings) (result : List ℕ) → Done (seenBy G (now (l .entry))) (seek (dirs (now (dir .entry)))) (tapeOf result (now (nums .entry)) (now (text .entry)) m) (tapeOf result (now (nums .exit)) (now (text .exit)) (r .mark)) (soughtOf G (now (l .entry)) (now (dir .entry)) (r .near))) ⌝ }
 {
+    let mut p = PathBuf::new();
     let mut mark = m;
     let mut n = dir.len();
     let mut above = depth(dir);
     loop {
         let d = path::first(dir, n);
-        let read = read_manifest(l, d, nums, text, mark);
+        let read = read_manifest(l, d, &mut p.bytes, nums, text, mark);
         mark = read.mark;
         let manifest = read.manifest;
         match manifest {

@@ -29,8 +29,11 @@ fn try_extension<'a>(
 ) -> Out
     ensures { λ r. ⌜ ((G : Settings) → Done (seenBy G (now (l .entry))) (tryExtension G (place (now (path .entry)) (now (query .entry)) (now (fragment .entry))) (getD (textsOf (now (s .entry)) 1) i [])) (tapeOf (now (result .entry)) (now (nums .entry)) (now (text .entry)) m) (tapeOf (now (result .exit)) (now (nums .exit)) (now (text .exit)) (r .mark)) (stepOf (r .way))) ⌝ }
 {
-    let p = PathBuf::from(path).append(settings::text(s, Kind::Extensions, i));
-    consults::try_path(l, p, query, fragment, result, nums, text, m)
+    let ext = settings::text(s, Kind::Extensions, i);
+    let mut p = PathBuf::new();
+    p.len = path::add_extension(path, ext, &mut p.bytes);
+    let n = p.len;
+    consults::try_path(l, &p.bytes, n, query, fragment, result, nums, text, m)
 }
 
 // LOAD_AS_FILE(X)
@@ -83,8 +86,11 @@ fn try_index<'a>(
 ) -> Out
     ensures { λ r. ⌜ ((G : Settings) → Done (seenBy G (now (l .entry))) (tryIndex G (place (now (path .entry)) (now (query .entry)) (now (fragment .entry))) (now (file .entry)) (getD (textsOf (now (s .entry)) 1) i [])) (tapeOf (now (result .entry)) (now (nums .entry)) (now (text .entry)) m) (tapeOf (now (result .exit)) (now (nums .exit)) (now (text .exit)) (r .mark)) (stepOf (r .way))) ⌝ }
 {
-    let p = PathBuf::from(path).append_main_file(file, settings::text(s, Kind::Extensions, i));
-    consults::try_path(l, p, query, fragment, result, nums, text, m)
+    let ext = settings::text(s, Kind::Extensions, i);
+    let mut p = PathBuf::new();
+    p.len = path::add_name_and_extension(path, file, ext, &mut p.bytes);
+    let n = p.len;
+    consults::try_path(l, &p.bytes, n, query, fragment, result, nums, text, m)
 }
 
 // LOAD_INDEX, one main file with each extension.

@@ -194,7 +194,7 @@ fn push_parts(b: &mut [u8; 2048], from: usize, sub: &[u8]) -> usize
 // where the path is over-long.
 
 // A directory's manifest.
-pub fn manifest_of(dir: &[u8], out: &mut [u8; 2048]) -> usize
+pub fn manifest_path(dir: &[u8], out: &mut [u8; 2048]) -> usize
     ensures { λ r. ⌜ pathAt (now (out .exit)) r ≡ andPath (limited (now (dir .entry))) (λ p. limited (manifestOf p)) ⌝ }
 {
     let n = append_at(out, 0, dir);

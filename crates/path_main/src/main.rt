@@ -75,7 +75,7 @@ fn main_file(path: &[u8], name: &[u8], ext: &[u8]) -> PathBuf {
 
 fn manifest(dir: &[u8]) -> PathBuf {
     let mut p = PathBuf::new();
-    p.len = path::manifest_of(dir, &mut p.bytes);
+    p.len = path::manifest_path(dir, &mut p.bytes);
     p
 }
 

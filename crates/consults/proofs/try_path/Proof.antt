@@ -1,13 +1,7 @@
-use mathlib.Core.Path.{refl}
 use Rattle.consults.proofs.Steps.{path-long, path-fits}
 use borrow.Author.Needs.{needs}
 use Rattle.consults.proofs.try_path.Statement.{statement}
 use Rattle.consults.proofs.try_path.Tie as tie
-use Rattle.consults.proofs.try_path.Reads as reads
-use Rattle.consults.proofs.try_path.Lts as lts
-use Rattle.path.proofs.first.Reads as first-reads
-use Rattle.consults.proofs.refused.Reads as refused-reads
-use Rattle.consults.proofs.try_file.Reads as try-file-reads
 
 pub try-path-spec : {M : Type 1} → statement M
 try-path-spec =
@@ -20,4 +14,4 @@ try-path-spec =
     (λ c. search needs)
     (λ c. search needs)
     (λ c. search needs)
-    (λ c. λ G. path-fits G _ _ _ _ (c .before .before .before .before .before .before .before .before .before .before .before .before .before .before .if1 .left) (rw (c .before .before .before .before .before .before .before .before .before .before .first .ensures) at (c .before .before .before .before .before .before .try-file .ensures G))))
+    (λ c. λ G. path-fits G _ _ _ _ (c .before .before .before .before .before .before .before .before .before .before .before .if1 .left) (rw (c .before .before .before .before .before .before .before .before .before .before .first .ensures) at (c .before .before .before .before .before .before .try-file .ensures G))))

@@ -1,27 +1,54 @@
-use mathlib.Core.Path.{_∙_, ap}
-use Rattle.definition.specs.Path.{andPath, addNameAndExtension}
-use Rattle.files.proofs.Files.{index-tried}
 use borrow.Author.Needs.{needs}
 use Rattle.files.proofs.try_index.Statement.{statement}
 use Rattle.files.proofs.try_index.Tie as tie
 use Rattle.files.proofs.try_index.Reads as reads
 use Rattle.files.proofs.try_index.Lts as lts
-use Rattle.path.proofs.PathBuf.append_main_file.Reads as append-main-file-reads
-use Rattle.path.proofs.PathBuf.from.Reads as from-reads
 use Rattle.consults.proofs.try_path.Reads as try-path-reads
+use Rattle.path.proofs.PathBuf.new.Reads as new-reads
+use Rattle.path.proofs.add_name_and_extension.Reads as add-name-and-extension-reads
 use Rattle.settings.proofs.text.Reads as text-reads
+
+-- src/lib.rt:89:9
+text-requires : tie.Need-text-requires
+text-requires c κs = search needs
+
+-- src/lib.rt:90:17
+new-requires : tie.Need-new-requires
+new-requires c κs = search needs
+
+-- src/lib.rt:91:13
+add-name-and-extension-requires : tie.Need-add-name-and-extension-requires
+add-name-and-extension-requires c κs = search needs
+
+-- src/lib.rt:93:5
+try-path-requires : tie.Need-try-path-requires
+try-path-requires c κs = search needs
+
+-- src/lib.rt:74:1
+same-length : tie.Need-same-length
+same-length c = search needs
+
+-- src/lib.rt:74:1
+same-length-2 : tie.Need-same-length-2
+same-length-2 c = search needs
+
+-- src/lib.rt:74:1
+same-length-3 : tie.Need-same-length-3
+same-length-3 c = search needs
+
+-- src/lib.rt:74:1
+returns : tie.Need-returns
+returns c = ?
 
 pub try-index-spec : {M : Type 1} → statement M
 try-index-spec =
     tie.close
     (tie.spec
-    (λ c κs. search needs)
-    (λ c κs. search needs)
-    (λ c κs. search needs)
-    (λ c κs. search needs)
-    (λ c. search needs)
-    (λ c. search needs)
-    (λ c. search needs)
-    (λ c.
-    let b = c .before .before .before .before .before .before .before .before .before .before .append-main-file .ensures ∙ ap (λ x. andPath x (λ p. addNameAndExtension p (c .before .before .before .before .before .before .before .before .before .before .before .before .before .before .before .before .before .before .before .before .before .before .args .file .now) (c .before .before .before .before .before .before .before .before .before .before .before .text .result .now))) (c .before .before .before .before .before .before .before .before .before .before .before .before .from .ensures) in
-    λ G. index-tried G _ _ _ _ (c .before .before .before .before .before .before .try-path .ensures G) _ _ (rw (c .before .before .before .before .before .before .before .before .before .before .before .text .ensures) at b)))
+    text-requires
+    new-requires
+    add-name-and-extension-requires
+    try-path-requires
+    same-length
+    same-length-2
+    same-length-3
+    returns)

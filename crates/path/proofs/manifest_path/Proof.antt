@@ -2,12 +2,12 @@ use borrow.Author.Needs.{needs}
 use mathlib.Core.Path.{_∙_}
 use Rattle.definition.specs.Path.{manifestOf}
 use Rattle.path.proofs.Steps.{put-first}
-use Rattle.path.proofs.manifest_of.Statement.{statement}
-use Rattle.path.proofs.manifest_of.Tie as tie
+use Rattle.path.proofs.manifest_path.Statement.{statement}
+use Rattle.path.proofs.manifest_path.Tie as tie
 
-pub manifest-of-spec : {M : Type 1} → statement M
+pub manifest-path-spec : {M : Type 1} → statement M
 unfolding manifestOf
-manifest-of-spec =
+manifest-path-spec =
     tie.close
     (tie.spec
     (λ c κs. search needs)
