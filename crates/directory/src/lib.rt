@@ -22,7 +22,7 @@ ghost use Rattle.definition.specs.Settings.{Settings, textsOf, settingsOf};
 ghost use Rattle.definition.specs.Manifest.{ifText, field, view};
 ghost use Rattle.definition.specs.Called.{seenBy};
 ghost use Rattle.definition.specs.Walk.{perhaps, forEach, sound, mainPath, nearest, own as ownIn, loadMain, LOAD-AS-DIRECTORY};
-ghost use Rattle.path.specs.Meaning.{pathOf};
+ghost use Rattle.path.specs.Meaning.{pathAt};
 ghost use Rattle.json_text.specs.Scanned.{faultOf};
 ghost use Rattle.json_text.specs.Texts.{told};
 ghost use Rattle.consults.specs.Tape.{Done};
@@ -34,7 +34,8 @@ ghost use Rattle.directory.specs.Refusals.{roomIn, DoneUnless};
 pub fn manifest_ending(number: u8, dir: &[u8], result: &mut [u8]) -> Ending
     ensures { λ r. ⌜ FinishesIn number (limited (manifestOf (now (dir .entry)))) r (now (result .entry)) (now (result .exit)) ⌝ }
 {
-    let p = PathBuf::from(dir).push_manifest();
+    let mut p = PathBuf::new();
+    p.len = path::manifest_path(dir, &mut p.bytes);
     let n = p.len;
     if n > 2048 {
         return consults::refuse(42);
@@ -183,16 +184,16 @@ pub fn text_field(m: &[u8], root: usize, name: &[u8], work: &mut [u8]) -> TextAt
 }
 
 // A main field below its directory: an empty one is the directory itself, and one that begins with "/" is not absolute.
-fn main_path(base: &[u8], main: &[u8]) -> PathBuf
-    ensures { λ r. ⌜ pathOf r ≡ normalizeWith (now (base .entry)) (mainPath (now (main .entry))) ⌝ }
+fn main_path(base: &[u8], main: &[u8], out: &mut [u8; 2048]) -> usize
+    ensures { λ r. ⌜ pathAt (now (out .exit)) r ≡ normalizeWith (now (base .entry)) (mainPath (now (main .entry))) ⌝ }
 {
     if main.len() == 0 {
-        return path::normalize_below(base, main);
+        return path::normalize_below(base, main, out);
     }
     if main[0] == b'/' {
-        return path::normalize_below(base, main);
+        return path::normalize_below(base, main, out);
     }
-    path::normalize_with(base, main)
+    path::normalize_with(base, main, out)
 }
 
 // LOAD_AS_DIRECTORY(X), 1.c to e: M is tried as a file and as a directory's index.
@@ -210,7 +211,8 @@ fn load_main<'a>(
 ) -> Out
     ensures { λ r. ⌜ Done (seenBy (settingsOf (now (s .entry))) (now (l .entry))) (loadMain (settingsOf (now (s .entry))) (place (now (path .entry)) (now (query .entry)) (now (fragment .entry))) (now (main .entry))) (tapeOf (now (result .entry)) (now (nums .entry)) (now (text .entry)) m) (tapeOf (now (result .exit)) (now (nums .exit)) (now (text .exit)) (r .mark)) (stepOf (r .way)) ⌝ }
 {
-    let p = main_path(path, main);
+    let mut p = PathBuf::new();
+    p.len = main_path(path, main, &mut p.bytes);
     let n = p.len;
     if n > 2048 {
         return consults::refused(42, m);

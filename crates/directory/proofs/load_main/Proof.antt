@@ -3,18 +3,12 @@ use Rattle.consults.proofs.Ways.{way-passed, way-onward}
 use borrow.Author.Needs.{needs}
 use Rattle.directory.proofs.load_main.Statement.{statement}
 use Rattle.directory.proofs.load_main.Tie as tie
-use Rattle.directory.proofs.load_main.Reads as reads
-use Rattle.directory.proofs.load_main.Lts as lts
-use Rattle.path.proofs.first.Reads as first-reads
-use Rattle.files.proofs.load_as_file.Reads as load-as-file-reads
-use Rattle.files.proofs.load_index.Reads as load-index-reads
-use Rattle.directory.proofs.main_path.Reads as main-path-reads
-use Rattle.consults.proofs.refused.Reads as refused-reads
 
 pub load-main-spec : {M : Type 1} → statement M
 load-main-spec =
     tie.close
     (tie.spec
+    (λ c κs. search needs)
     (λ c κs. search needs)
     (λ c κs. search needs)
     (λ c. rw (c .refused .ensures) (main-long _ _ _ _ _ _ _ (c .before .before .main-path .ensures) (c .before .if1 .taken)))
