@@ -10,6 +10,8 @@ use Rattle.laws.specs.ListingSteps.{part, row, rowBy, rowsAt}
 use Rattle.laws.specs.ListingOrder.{Rise, Going, inOrder, sized, shallow}
 use Rattle.listing.specs.declared.Found.{Found}
 use Rattle.listing.specs.declared.Found.the-variants.{Absent, Directory, File}
+use Rattle.listing.specs.declared.Attempt.{Attempt}
+use Rattle.listing.specs.declared.Attempt.the-variants.{Sure, Unsure}
 use Rattle.listing.specs.declared.Place.{Place}
 use Rattle.listing.specs.declared.Rule.{Rule}
 use Rattle.listing.specs.declared.Rule.the-variants.{Sizes, Depth, Manifests}
@@ -32,6 +34,11 @@ Inside l (File a e) = (a ≤ e) × (e ≤ length l)
 pub record Searched (l : List ℕ) (p : Text) (r : Found) : Type 0 where
   pub entry : seen l r ≡ entryAt l p
   pub inside : Inside l r
+
+-- what a search over unclamped lengths says, where it is sure
+abbrev pub Attempted : List ℕ → Text → Attempt → Type 0
+Attempted l p (Sure f) = Searched l p f
+Attempted l p Unsure = Unit {0}
 
 -- what the check says
 unfoldable pub verdict : List ℕ → Checked

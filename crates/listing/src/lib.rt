@@ -9,7 +9,7 @@ ghost use Rattle.definition.specs.Listing.{number32, entryCount, contentsLength
 ghost use Rattle.laws.specs.ListingSteps.{part, rowBy, Standing, lengthsAt};
 ghost use Rattle.laws.specs.ListingNameLaws.{isName, Plain};
 ghost use Rattle.laws.specs.ListingOrder.{Shared, Remarked, markOf, inOrder, sized};
-ghost use Rattle.listing.specs.Meaning.{Searched, Placed, Parts, Stepped, ruleOf, verdict};
+ghost use Rattle.listing.specs.Meaning.{Searched, Attempted, Placed, Parts, Stepped, ruleOf, verdict};
 
 fn wide(x: u8) -> usize
     ensures { λ r. ⌜ (r ≡ x) × (r < 256) ⌝ }
@@ -157,17 +157,23 @@ fn matches(l: &[u8], at: usize, end: usize, path: &[u8]) -> bool
     same(&l[at..end], path)
 }
 
-// What the path has in the listing. The lengths are added up unclamped: an entry that matches lies within the bytes, and so do
-// all before it; where none matches, one test at the end shows whether all did.
-pub fn search(l: &[u8], path: &[u8]) -> Found
-    ensures { λ r. ⌜ Searched (now (l .entry)) (now (path .entry)) r ⌝ }
+// What a search over unclamped lengths says.
+enum Attempt {
+    Sure(Found),
+    Unsure,
+}
+
+// The lengths are added up unclamped: an entry that matches lies within the bytes, and so do all before it; where none matches, one
+// test at the end shows whether all did.
+fn search_unclamped(l: &[u8], n: usize, path: &[u8]) -> Attempt
+    requires { ⌜ n ≡ entryCount (now l) ⌝ }
+    ensures { λ r. ⌜ Attempted (now (l .entry)) (now (path .entry)) r ⌝ }
 {
-    let n = number(l, 0);
     if n > 1024 {
-        return search_clamped(l, n, path);
+        return Attempt::Unsure;
     }
     if 8 + 8 * n > l.len() {
-        return search_clamped(l, n, path);
+        return Attempt::Unsure;
     }
     let mut at = 8 + 8 * n;
     let mut i = 0;
@@ -176,20 +182,32 @@ pub fn search(l: &[u8], path: &[u8]) -> Found
         let c = number_at(l, 8 + 4 * n + 4 * i);
         if matches(l, at, end, path) {
             if c == 4294967295 {
-                return Found::Directory;
+                return Attempt::Sure(Found::Directory);
             }
-            return Found::File {
+            return Attempt::Sure(Found::File {
                 start: end,
                 end: reach(end, c, l.len()),
-            };
+            });
         }
         at = end + contents_length(c);
         i += 1;
     }
     if at > l.len() {
-        return search_clamped(l, n, path);
+        return Attempt::Unsure;
     }
-    Found::Absent
+    Attempt::Sure(Found::Absent)
+}
+
+// What the path has in the listing. The clamped search has one call, so that it is compiled in place and no slice has to stand in memory.
+pub fn search(l: &[u8], path: &[u8]) -> Found
+    ensures { λ r. ⌜ Searched (now (l .entry)) (now (path .entry)) r ⌝ }
+{
+    let n = number(l, 0);
+    let a = search_unclamped(l, n, path);
+    match a {
+        Attempt::Sure(f) => f,
+        Attempt::Unsure => search_clamped(l, n, path),
+    }
 }
 
 // A file's contents, by the places that a search found.
