@@ -1,1 +1,3 @@
 mod Seek
+mod Names
+mod Steps

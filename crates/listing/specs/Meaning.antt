@@ -3,8 +3,8 @@ use mathlib.Core.Path.{_≡_}
 use mathlib.Core.Bool.{Bool, true, false}
 use mathlib.Core.List.{List, _∷_}
 use Prim.Native.Nat.{ℕ, _+_, _≤_}
-use lib.ListN.{length}
-use Rattle.definition.specs.Text.{Text, if_then_else_, smaller}
+use lib.ListN.{length, drop}
+use Rattle.definition.specs.Text.{Text, if_then_else_, slash, smaller, contains, beforeLast, isUtf8}
 use Rattle.definition.specs.Listing.{Entry, noEntry, directoryEntry, fileEntry, Row, entryAt, noDirectoryManifest, passes30, passes31, passes32}
 use Rattle.laws.specs.ListingSteps.{part, row, rowBy, rowsAt}
 use Rattle.laws.specs.ListingOrder.{Rise, Going, inOrder, sized, shallow}
@@ -15,6 +15,7 @@ use Rattle.listing.specs.declared.Attempt.the-variants.{Sure, Unsure}
 use Rattle.listing.specs.declared.Place.{Place}
 use Rattle.listing.specs.declared.Rule.{Rule}
 use Rattle.listing.specs.declared.Rule.the-variants.{Sizes, Depth, Manifests}
+use Rattle.listing.specs.declared.Ending.{Ending}
 use Rattle.listing.specs.declared.Parting.{Parting}
 use Rattle.listing.specs.declared.Parting.the-variants.{Up, Down}
 use Rattle.listing.specs.declared.Checked.{Checked}
@@ -56,6 +57,15 @@ abbrev pub ruleOf : Rule → Row → Bool
 ruleOf Sizes = sized
 ruleOf Depth = shallow
 ruleOf Manifests = noDirectoryManifest
+
+-- all that a component's bytes are tested for: so are ASCII bytes other than 0
+abbrev pub Plain : Text → Type 0
+Plain c = (isUtf8 c ≡ true) × (contains 0 c ≡ false)
+
+-- the place of the last "/", or the end, and whether what stands behind it is plain
+pub record Ended (q : Text) (e : Ending) : Type 0 where
+  pub last : e .slash ≡ length (beforeLast slash q)
+  pub behind : e .plain ≡ true → Plain (drop (e .slash + 1) q)
 
 -- q is larger than p and parts from it there, or it is not larger
 abbrev pub Parts : Text → Text → Parting → Type 0
