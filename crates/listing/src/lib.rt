@@ -3,13 +3,13 @@ ghost use mathlib.Core.Path.{_≡_};
 ghost use mathlib.Core.Bool.{Bool, true, _&&_};
 ghost use Prim.Native.Nat.{_+_, _-_, _*_, _≤_, _<_, min, max};
 ghost use lib.ListN.{length, drop, getD};
-ghost use lib.Dec.{leb};
+ghost use lib.Dec.{leb, ltb};
 ghost use Rattle.definition.specs.Text.{equal, all};
 ghost use Rattle.definition.specs.Listing.{number32, entryCount, contentsLength, rows, isDirectoryOf, sizesFit, isManifest, isComponent, firstIsRoot};
 ghost use Rattle.laws.specs.ListingSteps.{part, rowBy, Standing, lengthsAt};
-ghost use Rattle.laws.specs.ListingNameLaws.{isName, Plain};
+ghost use Rattle.laws.specs.ListingNameLaws.{isName};
 ghost use Rattle.laws.specs.ListingOrder.{Shared, Remarked, markOf, inOrder, sized};
-ghost use Rattle.listing.specs.Meaning.{Searched, Placed, Parts, Stepped, ruleOf, verdict};
+ghost use Rattle.listing.specs.Meaning.{Searched, Attempted, Placed, Plain, Ended, Parts, Stepped, ruleOf, verdict};
 
 fn wide(x: u8) -> usize
     ensures { λ r. ⌜ (r ≡ x) × (r < 256) ⌝ }
@@ -157,17 +157,23 @@ fn matches(l: &[u8], at: usize, end: usize, path: &[u8]) -> bool
     same(&l[at..end], path)
 }
 
-// What the path has in the listing. The lengths are added up unclamped: an entry that matches lies within the bytes, and so do
-// all before it; where none matches, one test at the end shows whether all did.
-pub fn search(l: &[u8], path: &[u8]) -> Found
-    ensures { λ r. ⌜ Searched (now (l .entry)) (now (path .entry)) r ⌝ }
+// What a search over unclamped lengths says.
+enum Attempt {
+    Sure(Found),
+    Unsure,
+}
+
+// The lengths are added up unclamped: an entry that matches lies within the bytes, and so do all before it; where none matches, one
+// test at the end shows whether all did.
+fn search_unclamped(l: &[u8], n: usize, path: &[u8]) -> Attempt
+    requires { ⌜ n ≡ entryCount (now l) ⌝ }
+    ensures { λ r. ⌜ Attempted (now (l .entry)) (now (path .entry)) r ⌝ }
 {
-    let n = number(l, 0);
     if n > 1024 {
-        return search_clamped(l, n, path);
+        return Attempt::Unsure;
     }
     if 8 + 8 * n > l.len() {
-        return search_clamped(l, n, path);
+        return Attempt::Unsure;
     }
     let mut at = 8 + 8 * n;
     let mut i = 0;
@@ -176,20 +182,32 @@ pub fn search(l: &[u8], path: &[u8]) -> Found
         let c = number_at(l, 8 + 4 * n + 4 * i);
         if matches(l, at, end, path) {
             if c == 4294967295 {
-                return Found::Directory;
+                return Attempt::Sure(Found::Directory);
             }
-            return Found::File {
+            return Attempt::Sure(Found::File {
                 start: end,
                 end: reach(end, c, l.len()),
-            };
+            });
         }
         at = end + contents_length(c);
         i += 1;
     }
     if at > l.len() {
-        return search_clamped(l, n, path);
+        return Attempt::Unsure;
     }
-    Found::Absent
+    Attempt::Sure(Found::Absent)
+}
+
+// What the path has in the listing. The clamped search has one call, so that it is compiled in place and no slice has to stand in memory.
+pub fn search(l: &[u8], path: &[u8]) -> Found
+    ensures { λ r. ⌜ Searched (now (l .entry)) (now (path .entry)) r ⌝ }
+{
+    let n = number(l, 0);
+    let a = search_unclamped(l, n, path);
+    match a {
+        Attempt::Sure(f) => f,
+        Attempt::Unsure => search_clamped(l, n, path),
+    }
 }
 
 // A file's contents, by the places that a search found.
@@ -363,38 +381,62 @@ fn is_component(c: &[u8]) -> bool
     c.len() != 2
 }
 
-// How many bytes at the front are ASCII and not 0.
-fn plain(c: &[u8]) -> usize
-    ensures { λ r. ⌜ Plain (now (c .entry)) r ⌝ }
-{
-    let mut i = 0;
-    while i < c.len() {
-        if c[i] == 0 {
-            return i;
-        }
-        if c[i] >= 128 {
-            return i;
-        }
-        i += 1;
-    }
-    i
-}
-
-// A component that may stand in a path: most are ASCII, and are read once.
-fn is_name(c: &[u8]) -> bool
+// A component that may stand in a path: most are plain, and need no further look at their bytes.
+fn is_name(c: &[u8], plain: bool) -> bool
+    requires { ⌜ (plain ≡ true → Plain (now c)) ⌝ }
     ensures { λ r. ⌜ r ≡ isName (now (c .entry)) ⌝ }
 {
     if !is_component(c) {
         return false;
     }
-    let i = plain(c);
-    if i == c.len() {
+    if plain {
         return true;
     }
-    if text::find(c, 0, i) < c.len() {
+    if text::contains(c, 0) {
         return false;
     }
-    text::is_utf8(&c[i..])
+    text::is_utf8(c)
+}
+
+// ASCII, and not 0.
+fn is_plain(b: u8) -> bool
+    ensures { λ r. ⌜ r ≡ (ltb 0 b && ltb b 128) ⌝ }
+{
+    if b == 0 {
+        return false;
+    }
+    b < 128
+}
+
+// Where the last "/" of a path stands, or the path's end, and whether the bytes behind it are plain.
+struct Ending {
+    slash: usize,
+    plain: bool,
+}
+
+// The last component is read once, from behind.
+fn ending_of(q: &[u8]) -> Ending
+    ensures { λ r. ⌜ Ended (now (q .entry)) r ⌝ }
+{
+    let mut plain = true;
+    let mut i = q.len();
+    while 0 < i {
+        let b = q[i - 1];
+        if b == b'/' {
+            return Ending {
+                slash: i - 1,
+                plain: plain,
+            };
+        }
+        if !is_plain(b) {
+            plain = false;
+        }
+        i -= 1;
+    }
+    Ending {
+        slash: q.len(),
+        plain: plain,
+    }
 }
 
 // Where a larger path parts from a smaller one.
@@ -458,7 +500,8 @@ fn step(p: &[u8], q: &[u8], d: bool, m: &mut [u8; 1025]) -> bool
     requires { ⌜ (length (now p) ≤ 1024) × (length (now q) ≤ 1024) × (length (now m) ≡ 1025) ⌝ }
     ensures { λ r. ⌜ Stepped (now (p .entry)) (now (q .entry)) d (now (m .entry)) (now (m .exit)) r ⌝ }
 {
-    let s = text::rfind(q, b'/');
+    let e = ending_of(q);
+    let s = e.slash;
     if s == q.len() {
         return false;
     }
@@ -481,7 +524,7 @@ fn step(p: &[u8], q: &[u8], d: bool, m: &mut [u8; 1025]) -> bool
         return false;
     }
     let from = s + 1;
-    if !is_name(&q[from..]) {
+    if !is_name(&q[from..], e.plain) {
         return false;
     }
     remark(m, j, p.len(), q.len(), mark_of(d, v));

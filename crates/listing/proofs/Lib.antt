@@ -1,0 +1,4 @@
+mod Seek
+mod Names
+mod Steps
+mod Order
