@@ -97,8 +97,8 @@ fn up(b: &[u8], n: usize) -> usize
     parent_len(first(b, n))
 }
 
-// `put` and `join` in the whole of an array.
-fn append_at(b: &mut [u8; 2048], n: usize, t: &[u8]) -> usize
+// `put` and `join` in the whole of an array, which needs no condition on its length. `append_at` adds a text to a path that stands in `b` already.
+pub fn append_at(b: &mut [u8; 2048], n: usize, t: &[u8]) -> usize
     ensures { λ r. ⌜ pathAt (now (b .exit)) r ≡ andPath (pathAt (now (b .entry)) n) (λ p. addExtension p (now (t .entry))) ⌝ }
 {
     put(b, n, t)

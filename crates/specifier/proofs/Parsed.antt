@@ -10,11 +10,11 @@ use lib.ListN.{length, drop, take, length-take}
 use lib.Seq.{take-take, length-take-le}
 use Rattle.definition.specs.Text.{if_then_else_, question, hash, before, from}
 use Rattle.laws.specs.TextSteps.{before-inside}
-use Rattle.definition.specs.Path.{Built, limited}
+use Rattle.definition.specs.Path.{limited}
 use Rattle.definition.specs.Specifier.{parsed, emptySpecifier, beforeFragment, body, unescape, pathBefore, orEmpty, parseSpecifier}
 use Rattle.laws.specs.SpecifierLaws.{before-take}
-use Rattle.specifier.specs.Meaning.{Scanned, parts, noPath, partsOf}
-use Rattle.specifier.proofs.Widening.{widened, widened-some}
+use Rattle.specifier.specs.Meaning.{Scanned, parts, noPath, partsOf, pathText}
+use Rattle.specifier.proofs.Widening.{widened-some}
 
 -- what stands before the fragment is a start of the specifier
 fragment-take : (p : ℕ) (s : List ℕ) → beforeFragment p s ≡ take (length (beforeFragment p s)) s
@@ -49,13 +49,13 @@ orEmpty-some [] q f h = let z : ⊥ = omega arith in absurd z
 orEmpty-some (b ∷ p) q f h = refl
 
 -- a text is as empty as its path
-path-none : (t : Bool) (s : List ℕ) → length s ≡ 0 → length (if t then widened s else s) ≡ 0
+path-none : (t : Bool) (s : List ℕ) → length s ≡ 0 → length (pathText t s) ≡ 0
 unfolding unescape flatMap
 path-none true [] h = refl
 path-none true (b ∷ s) h = let z : ⊥ = omega arith in absurd z
 path-none false s h = h
 
-path-some : (t : Bool) (s : List ℕ) → 0 < length s → 0 < length (if t then widened s else s)
+path-some : (t : Bool) (s : List ℕ) → 0 < length s → 0 < length (pathText t s)
 path-some true s h = widened-some s h
 path-some false s h = h
 
@@ -71,15 +71,15 @@ module _ (s : List ℕ) (f q : ℕ) (escaped : Bool) (g : Scanned s f escaped) (
       let l : q ≤ f = omega (arith, size, before-inside question (body s), g .place) in
       sym (take-take q f s l) ∙ ap (take q) whole ∙ ap (λ n. take n (body s)) size ∙ sym (before-take question (body s))
 
-  path : (if escaped then widened (take q s) else take q s) ≡ pathBefore (body s)
+  path : pathText escaped (take q s) ≡ pathBefore (body s)
   unfolding pathBefore
   path = rw (start, g .mark)
 
-  pub parse-is : (b : Built) → b ≡ limited (if escaped then widened (take q s) else take q s) → (if eqb q 0 then noPath else parts b (drop q (take f s)) (drop f s)) ≡ partsOf (parseSpecifier s)
+  pub parse-is : (if eqb q 0 then noPath else parts (limited (pathText escaped (take q s))) (drop q (take f s)) (drop f s)) ≡ partsOf (parseSpecifier s)
   unfolding parseSpecifier from
-  parse-is b e = go (eqb q 0) refl
+  parse-is = go (eqb q 0) refl
     where
-      go : (t : Bool) → eqb q 0 ≡ t → (if t then noPath else parts b (drop q (take f s)) (drop f s)) ≡ partsOf (parseSpecifier s)
+      go : (t : Bool) → eqb q 0 ≡ t → (if t then noPath else parts (limited (pathText escaped (take q s))) (drop q (take f s)) (drop f s)) ≡ partsOf (parseSpecifier s)
       go true h =
           let z : q ≡ 0 = eqb-true q 0 h in
           let n : length (take q s) ≡ 0 = rw z in
@@ -89,7 +89,7 @@ module _ (s : List ℕ) (f q : ℕ) (escaped : Bool) (g : Scanned s f escaped) (
           let z : q ≡ 0 → ⊥ = eqb-false q 0 h in
           let n : 0 < length (take q s) = omega (arith, length-take-le q s (first-of-part s f q at)) in
           let p : 0 < length (pathBefore (body s)) = rw path at (path-some escaped (take q s) n) in
-          let u : b ≡ limited (pathBefore (body s)) = e ∙ ap limited path in
+          let u : limited (pathText escaped (take q s)) ≡ limited (pathBefore (body s)) = ap limited path in
           let v : drop q (take f s) ≡ from question (body s) = ap (drop q) whole ∙ ap (λ n. drop n (body s)) size in
           let w : drop f s ≡ drop (length (body s)) s = ap (λ n. drop n s) (g .place) in
           let x = ap partsOf (orEmpty-some (pathBefore (body s)) (from question (body s)) (drop (length (body s)) s) p) in

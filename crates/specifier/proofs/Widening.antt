@@ -7,7 +7,7 @@ use native.Mathlib.Omega.{arith}
 use native.Mathlib.Numerals.{add-one}
 use borrow.Author.Tests.{lt-ltb, le-ltb, leb-true, leb-false}
 use lib.Dec.{eqb, leb, ltb}
-use lib.ListN.{length, drop, take, set, getD, length-append, length-set, drop-of-length-le}
+use lib.ListN.{length, drop, take, set, getD, length-append, length-set, length-take, drop-of-length-le}
 use lib.Seq.{drop-cons, take-suc-set, length-take-le}
 use Rattle.definition.specs.Text.{text, if_then_else_, startsWith, trail, utf8}
 use Rattle.laws.specs.TextLaws.{and-true, startsWith-length}
@@ -99,11 +99,10 @@ widened-some (b ∷ s) h = go (eqb b 0 && startsWith (text "#") s) refl (widened
     go false e ih = rw (byte-kept b s e) (omega (arith, utf8-some b, length-append (utf8 b) (widened s)))
 
 pub record Widening (s out : List ℕ) (n i : ℕ) : Type 0 where
-  pub size : length out ≡ 2048
   pub same : andPath (pathAt out n) (λ p. limited (p ++ widened (drop i s))) ≡ limited (widened s)
 
-pub widening-begin : (s out : List ℕ) → length out ≡ 2048 → Widening s out 0 0
-widening-begin s out w = record { size = w; same = rw (at-fits out 0 (omega arith)) }
+pub widening-begin : (s out : List ℕ) → Widening s out 0 0
+widening-begin s out = record { same = rw (at-fits out 0 (omega arith)) }
 
 grow : (x : Built) (u r : List ℕ) → andPath (andPath x (λ p. addExtension p u)) (λ p. limited (p ++ r)) ≡ andPath x (λ p. limited (p ++ (u ++ r)))
 unfolding addExtension
@@ -121,10 +120,8 @@ module _ {s out : List ℕ} {n i : ℕ} (g : Widening s out n i) where
       go : (u : Bool) → leb n 2048 ≡ u → pathAt out n ≡ limited (widened s)
       go true e =
           let k : n ≤ 2048 = leb-true _ _ e in
-          let w = g .size in
-          let l : length (take n out) ≡ n = length-take-le n out (omega arith) in
           let f : limited (take n out ++ []) ≡ limited (widened s) = rw (at-fits out n k) at left in
-          at-fits out n k ∙ sym (limited-fits (take n out) (omega arith)) ∙ ap limited (sym (append-nil (take n out))) ∙ f
+          at-fits out n k ∙ sym (limited-fits (take n out) (omega (arith, length-take n out))) ∙ ap limited (sym (append-nil (take n out))) ∙ f
       go false e = let k : 2048 < n = leb-false _ _ e in let f : tooLong ≡ limited (widened s) = rw (at-long out n k) at left in at-long out n k ∙ f
 
   module _ (h : i < length s) where
@@ -134,9 +131,9 @@ module _ {s out : List ℕ} {n i : ℕ} (g : Widening s out n i) where
     pub widening-skip : eqb (getD s i 0) 0 && startsWith (text "#") (drop (i + 1) s) ≡ true → Widening s out n (i + 1)
     widening-skip e =
         let f : widened (drop i s) ≡ widened (drop (i + 1) s) = rw here (escape-skipped (getD s i 0) (drop (i + 1) s) e) in
-        record { size = g .size; same = rw f at (g .same) }
+        record { same = rw f at (g .same) }
 
-    pub widening-on : eqb (getD s i 0) 0 && startsWith (text "#") (drop (i + 1) s) ≡ false → {c : List ℕ} {m : ℕ} → length c ≡ 2048 → pathAt c m ≡ andPath (pathAt out n) (λ p. addExtension p (utf8 (getD s i 0))) → Widening s c m (i + 1)
-    widening-on e z k =
+    pub widening-on : eqb (getD s i 0) 0 && startsWith (text "#") (drop (i + 1) s) ≡ false → {c : List ℕ} {m : ℕ} → pathAt c m ≡ andPath (pathAt out n) (λ p. addExtension p (utf8 (getD s i 0))) → Widening s c m (i + 1)
+    widening-on e k =
         let f : widened (drop i s) ≡ utf8 (getD s i 0) ++ widened (drop (i + 1) s) = rw here (byte-kept (getD s i 0) (drop (i + 1) s) e) in
-        record { size = z; same = rw (k, grow (pathAt out n) (utf8 (getD s i 0)) (widened (drop (i + 1) s)), ← f) (g .same) }
+        record { same = rw (k, grow (pathAt out n) (utf8 (getD s i 0)) (widened (drop (i + 1) s)), ← f) (g .same) }

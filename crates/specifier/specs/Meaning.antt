@@ -2,13 +2,12 @@
 use mathlib.Core.Path.{_≡_}
 use Prim.Native.Nat.{ℕ}
 use mathlib.Core.Bool.{Bool}
-use mathlib.Core.List.{List, [], _∷_}
+use mathlib.Core.List.{List, [], _∷_, flatMap}
 use mathlib.Core.Option.{Option, none, some}
 use lib.ListN.{length, drop, take}
-use Rattle.definition.specs.Text.{if_then_else_, hash, containsText}
+use Rattle.definition.specs.Text.{if_then_else_, hash, containsText, utf8}
 use Rattle.definition.specs.Path.{Built, limited}
-use Rattle.definition.specs.Specifier.{Specifier, parsed, emptySpecifier, body}
-use Rattle.path.specs.Meaning.{pathOf}
+use Rattle.definition.specs.Specifier.{Specifier, parsed, emptySpecifier, body, unescape}
 use Rattle.specifier.specs.declared.Specifier.{Specifier as Answer}
 use Rattle.specifier.specs.declared.Stripped.{Stripped}
 use Rattle.specifier.specs.declared.Stripped.the-variants.{At, Nothing}
@@ -32,6 +31,10 @@ abbrev pub partsOf : Specifier → Parts
 partsOf (parsed p q f) = parts (limited p) q f
 partsOf emptySpecifier = noPath
 
+-- the path of what stands before the query: where something is escaped, each byte of it is a character
+abbrev pub pathText : Bool → List ℕ → List ℕ
+pathText escaped s = if escaped then flatMap utf8 (unescape s) else s
+
 unfoldable pub meant : List ℕ → Answer → Parts
 meant s r =
-    if r .empty then noPath else parts (pathOf (r .path)) (drop (r .query) (take (r .fragment) s)) (drop (r .fragment) s)
+    if r .empty then noPath else parts (limited (pathText (r .escaped) (take (r .query) s))) (drop (r .query) (take (r .fragment) s)) (drop (r .fragment) s)

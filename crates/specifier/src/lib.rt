@@ -1,15 +1,14 @@
 // Specifiers: `Specifier::parse`, and the functions that take the specifier of a package apart.
-use path::PathBuf;
 ghost use mathlib.Core.Path.{_≡_};
 ghost use mathlib.Core.Bool.{_&&_, _||_};
 ghost use mathlib.Core.List.{flatMap};
 ghost use Prim.Native.Nat.{_+_, _<_};
 ghost use lib.Dec.{eqb};
 ghost use lib.ListN.{length, drop, take, getD};
-ghost use Rattle.definition.specs.Text.{text, if_then_else_, equal, startsWith, containsText, utf8, overwrite};
+ghost use Rattle.definition.specs.Text.{text, equal, startsWith, containsText, utf8, overwrite};
 ghost use Rattle.definition.specs.Path.{andPath, limited, addExtension};
 ghost use Rattle.definition.specs.Specifier.{unescape, parseSpecifier, packageName, packageSubpath, dotSubpath, stripPackageName, isBare, normalizedSpecifier, isSpecifier};
-ghost use Rattle.path.specs.Meaning.{pathAt, pathOf};
+ghost use Rattle.path.specs.Meaning.{pathAt};
 ghost use Rattle.specifier.specs.Meaning.{Scanned, partsOf, meant, tailOf};
 
 // What stands from a place on, nothing where the place is past the end.
@@ -144,15 +143,16 @@ pub fn may_climb(s: &[u8]) -> bool
     text::contains_text(s, b"../../")
 }
 
-// The specifier of the second walk, with the "/" at its end kept.
-pub fn normalized(s: &[u8]) -> PathBuf
-    ensures { λ r. ⌜ pathOf r ≡ andPath (limited (now (s .entry))) (λ p. limited (normalizedSpecifier p)) ⌝ }
+// The specifier of the second walk, with the "/" at its end kept, written to the bytes of a path. The answer is its length, one over 2,048 where it is
+// over-long.
+pub fn normalized(s: &[u8], out: &mut [u8; 2048]) -> usize
+    ensures { λ r. ⌜ pathAt (now (out .exit)) r ≡ andPath (limited (now (s .entry))) (λ p. limited (normalizedSpecifier p)) ⌝ }
 {
-    let p = path::normalize_relative(s);
+    let n = path::normalize_relative(s, out);
     if text::ends_with(s, b"/") {
-        return p.append(b"/");
+        return path::append_at(out, n, b"/");
     }
-    p
+    n
 }
 
 // Whether a normalised specifier leaves the directory of the first walk.
@@ -219,9 +219,8 @@ fn is_escape(s: &[u8], i: usize) -> bool
 }
 
 // A byte taken for a character, written behind the first n bytes. The answer is the new length.
-fn widen(out: &mut [u8; 2048], n: usize, b: u8) -> usize
+fn widen(out: &mut [u8], n: usize, b: u8) -> usize
     requires { ⌜ length (now out) ≡ 2048 ⌝ }
-    ensures { λ r. ⌜ length (now (out .exit)) ≡ 2048 ⌝ }
     ensures { λ r. ⌜ pathAt (now (out .exit)) r ≡ andPath (pathAt (now (out .entry)) n) (λ p. addExtension p (utf8 b)) ⌝ }
 {
     if b < 128 {
@@ -239,9 +238,9 @@ fn widen(out: &mut [u8; 2048], n: usize, b: u8) -> usize
     n + 2
 }
 
-// The path of a specifier in which something is escaped.
-fn unescaped(s: &[u8], out: &mut [u8; 2048]) -> usize
-    requires { ⌜ length (now out) ≡ 2048 ⌝ }
+// The path of a specifier in which something is escaped, of what stands before the query, written to the bytes of a path. The answer is its length, one
+// over 2,048 where it is over-long.
+pub fn unescaped(s: &[u8], out: &mut [u8; 2048]) -> usize
     ensures { λ r. ⌜ pathAt (now (out .exit)) r ≡ limited (flatMap utf8 (unescape (now (s .entry)))) ⌝ }
 {
     let mut n: usize = 0;
@@ -256,22 +255,13 @@ fn unescaped(s: &[u8], out: &mut [u8; 2048]) -> usize
     n
 }
 
-fn path_of(s: &[u8], escaped: bool) -> PathBuf
-    ensures { λ r. ⌜ pathOf r ≡ limited (if escaped then flatMap utf8 (unescape (now (s .entry))) else now (s .entry)) ⌝ }
-{
-    if escaped {
-        let mut bytes = [0u8; 2048];
-        let len = unescaped(s, &mut bytes);
-        return PathBuf { bytes, len };
-    }
-    PathBuf::from(s)
-}
-
-// A parsed specifier: its path, and where its query and its fragment begin. The query runs to the fragment, the fragment to the end.
+// A parsed specifier: where its query and its fragment begin. The path is what stands before the query, the query runs to the fragment, the fragment
+// to the end.
 pub struct Specifier {
-    pub path: PathBuf,
     pub query: usize,
     pub fragment: usize,
+    // a "#" before the fragment is escaped: the path is what `unescaped` makes of what stands before the query
+    pub escaped: bool,
     // `SpecifierError::Empty`
     pub empty: bool,
 }
@@ -284,11 +274,10 @@ impl Specifier {
         let fragment = c.fragment;
         let escaped = c.escaped;
         let query = text::find(&s[..fragment], b'?', 0);
-        let path = path_of(&s[..query], escaped);
         Specifier {
-            path,
             query,
             fragment,
+            escaped,
             empty: query == 0,
         }
     }

@@ -1,6 +1,7 @@
 // Runs specifiers with known answers through the functions of `specifier`, and prints for each group how many are as expected.
 // A case that is not as expected is printed, and ends its group.
 use libc::STDOUT_FILENO;
+use path::PathBuf;
 use specifier::Specifier;
 use specifier::Stripped;
 
@@ -211,13 +212,23 @@ fn limits() -> bool {
     bad(&s)
 }
 
+// The path of what stands before the query.
+fn is_path(s: &[u8], escaped: bool, path: &[u8]) -> bool {
+    if !escaped {
+        return text::equal(s, path);
+    }
+    let mut p = PathBuf::new();
+    let n = specifier::unescaped(s, &mut p.bytes);
+    text::equal(path::first(&p.bytes, n), path)
+}
+
 fn parse(s: &[u8], path: &[u8], query: &[u8], fragment: &[u8]) -> bool {
     let p = Specifier::parse(s);
-    let n = p.path.len;
     let q = p.query;
     let f = p.fragment;
+    let escaped = p.escaped;
     let mut ok = !p.empty;
-    if !text::equal(path::first(&p.path.bytes, n), path) {
+    if !is_path(path::first(s, q), escaped, path) {
         ok = false;
     }
     if !text::equal(specifier::between(s, q, f), query) {
@@ -306,30 +317,51 @@ fn empties() -> bool {
 
 // A path of 2,048 bytes fits, of one more does not; so does one of 1,023 characters of two bytes and a "#".
 fn long_paths() -> bool {
+    let mut out = [0u8; 2048];
     let s = [b'a'; 2049];
-    let fits = Specifier::parse(&s[..2048]);
-    if fits.path.len != 2048 {
+    if specifier::unescaped(&s[..2048], &mut out) != 2048 {
         return false;
     }
-    let long = Specifier::parse(&s);
-    if long.path.len <= 2048 {
+    if specifier::unescaped(&s, &mut out) <= 2048 {
         return false;
     }
     let mut w = [0xE9u8; 1027];
     w[1023] = 0;
     w[1024] = b'#';
-    let wide = Specifier::parse(&w[..1025]);
-    if wide.path.len != 2047 {
+    if specifier::unescaped(&w[..1025], &mut out) != 2047 {
         return false;
     }
-    let wider = Specifier::parse(&w);
-    wider.path.len > 2048
+    specifier::unescaped(&w, &mut out) > 2048
+}
+
+// Where nothing is escaped, the path is a part of the specifier, and over-long where that is.
+fn long_part() -> bool {
+    let s = [b'a'; 2049];
+    let p = Specifier::parse(&s);
+    if p.escaped {
+        return false;
+    }
+    p.query == 2049
+}
+
+// A specifier of 2,048 bytes is normalised, with a "/" at its end or without; one of more is over-long.
+fn long_climbs() -> bool {
+    let mut out = [0u8; 2048];
+    let mut s = [b'a'; 2049];
+    if specifier::normalized(&s[..2048], &mut out) != 2048 {
+        return false;
+    }
+    s[2047] = b'/';
+    if specifier::normalized(&s[..2048], &mut out) != 2048 {
+        return false;
+    }
+    specifier::normalized(&s, &mut out) > 2048
 }
 
 // The normalised specifier, and whether it leaves the directory of the first walk.
 fn climb(s: &[u8], wanted: &[u8], up: bool) -> bool {
-    let p = specifier::normalized(s);
-    let n = p.len;
+    let mut p = PathBuf::new();
+    let n = specifier::normalized(s, &mut p.bytes);
     let to = path::first(&p.bytes, n);
     let same = text::equal(to, wanted);
     let above = specifier::may_climb(s) && specifier::climbs(to);
@@ -372,5 +404,7 @@ fn main() {
     report(zero_bytes(), b"zero bytes that escape nothing: 4");
     report(empties(), b"empty: 3");
     report(long_paths(), b"long paths: 4");
+    report(long_part(), b"long path in which nothing is escaped: 1");
     report(climbing(), b"second walk: 7");
+    report(long_climbs(), b"second walk of a long specifier: 3");
 }

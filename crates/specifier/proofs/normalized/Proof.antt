@@ -13,5 +13,5 @@ normalized-spec =
     (λ c κs. search needs)
     (λ c. search needs)
     (λ c κs. search needs)
-    (λ c. c .append .ensures ∙ slash-kept _ _ (c .before .before .before .before .before .normalize-relative .ensures) (sym (c .before .before .before .ends-with .ensures) ∙ c .before .before .if1 .taken))
+    (λ c. c .append-at .ensures ∙ slash-kept _ _ (c .before .before .before .before .before .before .normalize-relative .ensures) (sym (c .before .before .before .before .ends-with .ensures) ∙ c .before .before .before .if1 .taken))
     (λ c. no-slash _ _ _ (c .before .before .before .normalize-relative .ensures) (sym (c .before .ends-with .ensures) ∙ c .if1 .left)))

@@ -20,11 +20,11 @@ unescaped-spec =
     (tie.spec
     Inv-loop
     μ-loop
-    (λ c. widening-begin _ _ (c .before .pre))
+    (λ c. widening-begin _ _)
     (λ c κs. search needs)
     (λ c. search needs)
-    (λ c κs. c .before .before .before .before .before .loop .inv .size)
+    (λ c κs. search needs)
     (λ c. search needs)
     (λ c. search needs)
-    (λ c. ⊎-elim (λ w. rw (w .4, w .5) (widening-on (c .before .before .before .loop .inv) (c .before .before .loop-test .taken) (sym (c .before .is-escape .ensures) ∙ not-true _ (w .0 .taken)) (w .3 .ensures .0) (w .3 .ensures .1))) (λ w. rw (w .1, w .2) (widening-skip (c .before .before .before .loop .inv) (c .before .before .loop-test .taken) (sym (c .before .is-escape .ensures) ∙ not-false _ (w .0 .left)))) (c .if1 .came))
+    (λ c. ⊎-elim (λ w. rw (w .4, w .5) (widening-on (c .before .before .before .loop .inv) (c .before .before .loop-test .taken) (sym (c .before .is-escape .ensures) ∙ not-true _ (w .0 .taken)) (w .3 .ensures))) (λ w. rw (w .1, w .2) (widening-skip (c .before .before .before .loop .inv) (c .before .before .loop-test .taken) (sym (c .before .is-escape .ensures) ∙ not-false _ (w .0 .left)))) (c .if1 .came))
     (λ c. widening-end (c .before .loop .inv) (c .loop-test .left)))

@@ -1,4 +1,5 @@
 use lib.ListN.{length-set}
+use native.Mathlib.Omega.{arith}
 use Rattle.specifier.proofs.Widening.{narrow-long, narrow-put, wide-long, wide-put}
 use borrow.Author.Needs.{needs}
 use Rattle.specifier.proofs.widen.Statement.{statement}
@@ -8,15 +9,17 @@ pub widen-spec : {M : Type 1} → statement M
 widen-spec =
     tie.close
     (tie.spec
-    (λ c. (c .before .before .pre, narrow-long (c .before .before .args .out .now) _ _ (c .before .before .pre) (c .before .if1 .taken) (c .if2 .taken)))
-    (λ c. search needs)
-    (λ c. search needs)
-    (λ c. (simp length-set (c .before .before .pre), narrow-put (c .before .before .args .out .now) _ _ (c .before .before .pre) (c .before .if1 .taken) (c .if2 .left)))
-    (λ c. (c .before .before .pre, wide-long (c .before .before .args .out .now) _ _ (c .before .before .pre) (c .before .if1 .left) (search needs) (c .if3 .taken)))
+    (λ c. narrow-long (c .before .before .args .out .now) _ _ (c .before .before .pre) (c .before .if1 .taken) (c .if2 .taken))
     (λ c. search needs)
     (λ c. search needs)
     (λ c. search needs)
+    (λ c. narrow-put (c .before .before .args .out .now) _ _ (c .before .before .pre) (c .before .if1 .taken) (c .if2 .left))
+    (λ c. wide-long (c .before .before .args .out .now) _ _ (c .before .before .pre) (c .before .if1 .left) (search needs) (c .if3 .taken))
     (λ c. search needs)
     (λ c. search needs)
     (λ c. search needs)
-    (λ c. (simp length-set (c .before .before .pre), wide-put (c .before .before .args .out .now) _ _ (c .before .before .pre) (c .before .if1 .left) (search needs) (c .if3 .left))))
+    (λ c. search needs)
+    (λ c. simp length-set (omega (arith, c .before .before .pre)))
+    (λ c. search needs)
+    (λ c. search needs)
+    (λ c. wide-put (c .before .before .args .out .now) _ _ (c .before .before .pre) (c .before .if1 .left) (search needs) (c .if3 .left)))

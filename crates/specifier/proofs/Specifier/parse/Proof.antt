@@ -1,7 +1,7 @@
 use mathlib.Core.Path.{sym}
 use native.Mathlib.Omega.{arith}
 use lib.Seq.{length-take-le}
-use Rattle.specifier.proofs.Parsed.{body-inside, first-of-part, parse-is}
+use Rattle.specifier.proofs.Parsed.{body-inside, parse-is}
 use Rattle.specifier.specs.Meaning.{meant}
 use borrow.Author.Needs.{needs}
 use Rattle.specifier.proofs.Specifier.parse.Statement.{statement}
@@ -15,6 +15,4 @@ parse-spec =
     (λ c κs. search needs)
     (λ c. sym (length-take-le _ _ (omega (arith, c .before .scan .ensures .place, body-inside (c .before .before .before .args .s .now)))))
     (λ c κs. search needs)
-    (λ c. sym (length-take-le _ _ (first-of-part (c .before .before .before .before .before .args .s .now) (c .before .before .before .scan .result .fragment) _ (c .before .find .ensures))))
-    (λ c κs. search needs)
-    (λ c. parse-is _ _ _ _ (c .before .before .before .before .scan .ensures) (c .before .before .find .ensures) _ (c .path-of .ensures)))
+    (λ c. parse-is _ _ _ _ (c .before .before .scan .ensures) (c .find .ensures)))
