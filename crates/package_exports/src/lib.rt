@@ -109,7 +109,8 @@ fn invalid_target(
     requires { ⌜ (1024 ≤ length (now work)) × (length (manifestOf (now dir)) ≤ 2048) ⌝ }
     ensures { λ r. ⌜ Finishes 3 (now (target .entry)) (keyText (now (m .entry)) (now (subpath .entry)) key) (manifestOf (now (dir .entry))) r (now (result .entry)) (now (result .exit)) ⌝ }
 {
-    let p = PathBuf::from(dir).push_manifest();
+    let mut p = PathBuf::new();
+    p.len = path::manifest_path(dir, &mut p.bytes);
     let n = p.len;
     let manifest = path::first(&p.bytes, n);
     match key {
@@ -194,8 +195,8 @@ fn exports_ending(
     }
 }
 
-// RESOLVE_ESM_MATCH(MATCH) with the query and the fragment of the targets that were tried.
-fn resolve_in_context(
+// RESOLVE_ESM_MATCH(MATCH) with a query or a fragment, whose texts are read from the manifest.
+fn resolve_with_texts(
     l: &[u8],
     s: &[u8],
     spec: &[u8],
@@ -222,6 +223,44 @@ fn resolve_in_context(
         path,
         path::first(&query, q),
         path::first(&fragment, f),
+        result,
+        nums,
+        text,
+        m,
+        work,
+    )
+}
+
+// RESOLVE_ESM_MATCH(MATCH) with the query and the fragment of the targets that were tried.
+fn resolve_in_context(
+    l: &[u8],
+    s: &[u8],
+    spec: &[u8],
+    path: &[u8],
+    manifest: &[u8],
+    context: exports::Context,
+    result: &mut [u8],
+    nums: &mut [u32],
+    text: &mut [u8],
+    m: Mark,
+    work: &mut [u8],
+) -> Out
+    requires { ⌜ 1024 ≤ length (now work) ⌝ }
+    ensures { λ r. ⌜ Done (seenBy (settingsOf (now (s .entry))) (now (l .entry))) (never (RESOLVE-ESM-MATCH (settingsOf (now (s .entry))) (now (spec .entry)) (place (now (path .entry)) (partText (now (manifest .entry)) (context .query)) (partText (now (manifest .entry)) (context .fragment))))) (tapeOf (now (result .entry)) (now (nums .entry)) (now (text .entry)) m) (tapeOf (now (result .exit)) (now (nums .exit)) (now (text .exit)) (r .mark)) (stepOf (r .way)) ⌝ }
+{
+    if context.query.len == 0 {
+        if context.fragment.len == 0 {
+            let none: &[u8] = b"";
+            return resolve_esm_match(l, s, spec, path, none, none, result, nums, text, m, work);
+        }
+    }
+    resolve_with_texts(
+        l,
+        s,
+        spec,
+        path,
+        manifest,
+        context,
         result,
         nums,
         text,

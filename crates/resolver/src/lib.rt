@@ -3,6 +3,7 @@ use consults::Ending;
 use consults::Mark;
 use consults::Out;
 use consults::Way;
+use path::PathBuf;
 ghost use mathlib.Core.Path.{_≡_};
 ghost use mathlib.Core.Bool.{false, not, _&&_};
 ghost use mathlib.Core.List.{List, []};
@@ -181,7 +182,8 @@ fn load_as_file_or_directory(
     requires { ⌜ 1024 ≤ length (now work) ⌝ }
     ensures { λ r. ⌜ Done (seenBy (settingsOf (now (s .entry))) (now (l .entry))) (asFileOrDirectory (settingsOf (now (s .entry))) (now (spec .entry)) (now (name .entry)) (now (modules .entry))) (tapeOf (now (result .entry)) (now (nums .entry)) (now (text .entry)) m) (tapeOf (now (result .exit)) (now (nums .exit)) (now (text .exit)) (r .mark)) (stepOf (r .way)) ⌝ }
 {
-    let p = path::normalize_with(modules, spec);
+    let mut p = PathBuf::new();
+    p.len = path::normalize_with(modules, spec, &mut p.bytes);
     let n = p.len;
     if n > 2048 {
         return consults::refused(42, m);
@@ -257,7 +259,8 @@ fn in_modules(
     requires { ⌜ (1024 ≤ length (now work)) × (length (now sub) ≤ 2048) ⌝ }
     ensures { λ r. ⌜ Done (seenBy (settingsOf (now (s .entry))) (now (l .entry))) (inModules (settingsOf (now (s .entry))) (now (spec .entry)) (now (name .entry)) (now (sub .entry)) (now (modules .entry))) (tapeOf (now (result .entry)) (now (nums .entry)) (now (text .entry)) m) (tapeOf (now (result .exit)) (now (nums .exit)) (now (text .exit)) (r .mark)) (stepOf (r .way)) ⌝ }
 {
-    let p = path::normalize_with(modules, name);
+    let mut p = PathBuf::new();
+    p.len = path::normalize_with(modules, name, &mut p.bytes);
     let n = p.len;
     if n > 2048 {
         return consults::refused(42, m);
@@ -300,7 +303,8 @@ fn in_directory(
     if asked.state != 1 {
         return consults::next(mark);
     }
-    let p = path::normalize_with(dir, b"node_modules");
+    let mut p = PathBuf::new();
+    p.len = path::normalize_with(dir, b"node_modules", &mut p.bytes);
     let n = p.len;
     if n > 2048 {
         return consults::refused(42, mark);
@@ -385,7 +389,8 @@ fn load_climbing(
     if !specifier::may_climb(spec) {
         return consults::next(m);
     }
-    let p = specifier::normalized(spec);
+    let mut p = PathBuf::new();
+    p.len = specifier::normalized(spec, &mut p.bytes);
     let n = p.len;
     let normalized = path::first(&p.bytes, n);
     if !specifier::climbs(normalized) {

@@ -3,14 +3,6 @@ use Rattle.resolver.proofs.Modules.{directory-none, directory-long, mod
 use borrow.Author.Needs.{needs}
 use Rattle.resolver.proofs.in_directory.Statement.{statement}
 use Rattle.resolver.proofs.in_directory.Tie as tie
-use Rattle.resolver.proofs.in_directory.Reads as reads
-use Rattle.resolver.proofs.in_directory.Lts as lts
-use Rattle.consults.proofs.next.Reads as next-reads
-use Rattle.path.proofs.first.Reads as first-reads
-use Rattle.path.proofs.normalize_with.Reads as normalize-with-reads
-use Rattle.consults.proofs.consult.Reads as consult-reads
-use Rattle.resolver.proofs.in_modules.Reads as in-modules-reads
-use Rattle.consults.proofs.refused.Reads as refused-reads
 
 pub in-directory-spec : {M : Type 1} → statement M
 in-directory-spec =
@@ -23,33 +15,34 @@ in-directory-spec =
     (λ c.
     let k = c .before .before .before .before .before .before .before .before .consult .ensures in
     rw (c .next .ensures) (directory-none _ _ _ _ _ _ _ _ _ (k .0) (k .1 _) (c .before .if1 .taken)))
+    (λ c κs. search needs)
     (λ c. search needs)
     (λ c κs. search needs)
     (λ c κs. search needs)
     (λ c. search needs)
     (λ c. search needs)
     (λ c.
-    let k = c .before .before .before .before .before .before .before .before .before .before .before .consult .ensures in
-    rw (c .refused .ensures) (directory-long _ _ _ _ _ _ _ _ _ (k .0) (k .1 _) (c .before .before .before .before .if1 .left) _ _ (c .before .before .normalize-with .ensures) (c .before .if2 .taken)))
+    let k = c .before .before .before .before .before .before .before .before .before .before .before .before .before .consult .ensures in
+    rw (c .refused .ensures) (directory-long _ _ _ _ _ _ _ _ _ (k .0) (k .1 _) (c .before .before .before .before .before .before .if1 .left) _ _ (c .before .before .normalize-with .ensures) (c .before .if2 .taken)))
     (λ c κs. search needs)
     (λ c κs. search needs)
     (λ c κs. search needs)
-    (λ c. c .before .before .before .before .before .before .before .before .consult2 .kept .1 .1 .0 ∙ c .before .before .before .before .before .before .before .before .before .before .before .before .before .before .before .before .before .before .before .before .before .before .before .before .before .consult .kept .1 .1 .0)
-    (λ c. c .before .before .before .before .before .before .before .before .consult2 .kept .1 .1 .1 .0 ∙ c .before .before .before .before .before .before .before .before .before .before .before .before .before .before .before .before .before .before .before .before .before .before .before .before .before .consult .kept .1 .1 .1 .0)
+    (λ c. c .before .before .before .before .before .before .before .before .consult2 .kept .1 .1 .0 ∙ c .before .before .before .before .before .before .before .before .before .before .before .before .before .before .before .before .before .before .before .before .before .before .before .before .before .before .before .consult .kept .1 .1 .0)
+    (λ c. c .before .before .before .before .before .before .before .before .consult2 .kept .1 .1 .1 .0 ∙ c .before .before .before .before .before .before .before .before .before .before .before .before .before .before .before .before .before .before .before .before .before .before .before .before .before .before .before .consult .kept .1 .1 .1 .0)
     (λ c.
-    let k = c .before .before .before .before .before .before .before .before .before .before .before .before .before .before .before .before .before .before .before .before .before .before .before .before .before .consult .ensures in
+    let k = c .before .before .before .before .before .before .before .before .before .before .before .before .before .before .before .before .before .before .before .before .before .before .before .before .before .before .before .consult .ensures in
     let p = c .before .before .before .before .before .before .before .before .before .before .before .first .ensures in
     let j = c .before .before .before .before .before .before .before .before .consult2 .ensures in
-    let r = c .before .before .before .before .before .before .before .before .before .before .before .before .before .before .before .before .before .before .before .before .before .before .before .before .before .before .before .before .before .before .before .before .before .before .before .before .before .before .args .result .now in
-    rw (c .next2 .ensures) (modules-none _ _ _ _ _ _ _ _ _ (k .0) (k .1 r) (c .before .before .before .before .before .before .before .before .before .before .before .before .before .before .before .before .before .before .if1 .left) _ _ (c .before .before .before .before .before .before .before .before .before .before .before .before .before .before .before .before .normalize-with .ensures) (c .before .before .before .before .before .before .before .before .before .before .before .before .before .before .before .if2 .left) _ _ (rw p at (j .0)) (rw p at (j .1 r)) (c .before .if3 .taken)))
-    (λ c κs. c .before .before .before .before .before .before .before .before .before .before .before .before .before .before .before .before .before .before .before .before .before .before .before .before .before .before .before .before .before .before .before .before .before .before .before .before .before .before .before .before .before .pre)
+    let r = c .before .before .before .before .before .before .before .before .before .before .before .before .before .before .before .before .before .before .before .before .before .before .before .before .before .before .before .before .before .before .before .before .before .before .before .before .before .before .before .before .args .result .now in
+    rw (c .next2 .ensures) (modules-none _ _ _ _ _ _ _ _ _ (k .0) (k .1 r) (c .before .before .before .before .before .before .before .before .before .before .before .before .before .before .before .before .before .before .before .before .if1 .left) _ _ (c .before .before .before .before .before .before .before .before .before .before .before .before .before .before .before .before .normalize-with .ensures) (c .before .before .before .before .before .before .before .before .before .before .before .before .before .before .before .if2 .left) _ _ (rw p at (j .0)) (rw p at (j .1 r)) (c .before .if3 .taken)))
+    (λ c κs. c .before .before .before .before .before .before .before .before .before .before .before .before .before .before .before .before .before .before .before .before .before .before .before .before .before .before .before .before .before .before .before .before .before .before .before .before .before .before .before .before .before .before .before .pre)
     (λ c. search needs)
-    (λ c. c .before .before .before .before .before .before .before .before .in-modules .kept .1 .1 .1 .1 .1 .1 .1 .0 ∙ c .before .before .before .before .before .before .before .before .before .before .before .before .before .before .before .before .before .before .before .before .consult2 .kept .1 .1 .0 ∙ c .before .before .before .before .before .before .before .before .before .before .before .before .before .before .before .before .before .before .before .before .before .before .before .before .before .before .before .before .before .before .before .before .before .before .before .before .before .consult .kept .1 .1 .0)
-    (λ c. c .before .before .before .before .before .before .before .before .in-modules .kept .1 .1 .1 .1 .1 .1 .1 .1 .0 ∙ c .before .before .before .before .before .before .before .before .before .before .before .before .before .before .before .before .before .before .before .before .consult2 .kept .1 .1 .1 .0 ∙ c .before .before .before .before .before .before .before .before .before .before .before .before .before .before .before .before .before .before .before .before .before .before .before .before .before .before .before .before .before .before .before .before .before .before .before .before .before .consult .kept .1 .1 .1 .0)
+    (λ c. c .before .before .before .before .before .before .before .before .in-modules .kept .1 .1 .1 .1 .1 .1 .1 .0 ∙ c .before .before .before .before .before .before .before .before .before .before .before .before .before .before .before .before .before .before .before .before .consult2 .kept .1 .1 .0 ∙ c .before .before .before .before .before .before .before .before .before .before .before .before .before .before .before .before .before .before .before .before .before .before .before .before .before .before .before .before .before .before .before .before .before .before .before .before .before .before .before .consult .kept .1 .1 .0)
+    (λ c. c .before .before .before .before .before .before .before .before .in-modules .kept .1 .1 .1 .1 .1 .1 .1 .1 .0 ∙ c .before .before .before .before .before .before .before .before .before .before .before .before .before .before .before .before .before .before .before .before .consult2 .kept .1 .1 .1 .0 ∙ c .before .before .before .before .before .before .before .before .before .before .before .before .before .before .before .before .before .before .before .before .before .before .before .before .before .before .before .before .before .before .before .before .before .before .before .before .before .before .before .consult .kept .1 .1 .1 .0)
     (λ c. search needs)
     (λ c.
-    let k = c .before .before .before .before .before .before .before .before .before .before .before .before .before .before .before .before .before .before .before .before .before .before .before .before .before .before .before .before .before .before .before .before .before .before .before .before .before .consult .ensures in
+    let k = c .before .before .before .before .before .before .before .before .before .before .before .before .before .before .before .before .before .before .before .before .before .before .before .before .before .before .before .before .before .before .before .before .before .before .before .before .before .before .before .consult .ensures in
     let p = c .before .before .before .before .before .before .before .before .before .before .before .before .before .before .before .before .before .before .before .before .before .before .before .first .ensures in
     let j = c .before .before .before .before .before .before .before .before .before .before .before .before .before .before .before .before .before .before .before .before .consult2 .ensures in
-    let r = c .before .before .before .before .before .before .before .before .before .before .before .before .before .before .before .before .before .before .before .before .before .before .before .before .before .before .before .before .before .before .before .before .before .before .before .before .before .before .before .before .before .before .before .before .before .before .before .before .before .before .args .result .now in
-    modules-in _ _ _ _ _ _ _ _ _ (k .0) (k .1 r) (c .before .before .before .before .before .before .before .before .before .before .before .before .before .before .before .before .before .before .before .before .before .before .before .before .before .before .before .before .before .before .if1 .left) _ _ (c .before .before .before .before .before .before .before .before .before .before .before .before .before .before .before .before .before .before .before .before .before .before .before .before .before .before .before .before .normalize-with .ensures) (c .before .before .before .before .before .before .before .before .before .before .before .before .before .before .before .before .before .before .before .before .before .before .before .before .before .before .before .if2 .left) _ _ (rw p at (j .0)) (rw p at (j .1 r)) (c .before .before .before .before .before .before .before .before .before .before .before .before .before .if3 .left) (rw p at (c .before .before .before .before .before .before .before .before .in-modules .ensures))))
+    let r = c .before .before .before .before .before .before .before .before .before .before .before .before .before .before .before .before .before .before .before .before .before .before .before .before .before .before .before .before .before .before .before .before .before .before .before .before .before .before .before .before .before .before .before .before .before .before .before .before .before .before .before .before .args .result .now in
+    modules-in _ _ _ _ _ _ _ _ _ (k .0) (k .1 r) (c .before .before .before .before .before .before .before .before .before .before .before .before .before .before .before .before .before .before .before .before .before .before .before .before .before .before .before .before .before .before .before .before .if1 .left) _ _ (c .before .before .before .before .before .before .before .before .before .before .before .before .before .before .before .before .before .before .before .before .before .before .before .before .before .before .before .before .normalize-with .ensures) (c .before .before .before .before .before .before .before .before .before .before .before .before .before .before .before .before .before .before .before .before .before .before .before .before .before .before .before .if2 .left) _ _ (rw p at (j .0)) (rw p at (j .1 r)) (c .before .before .before .before .before .before .before .before .before .before .before .before .before .if3 .left) (rw p at (c .before .before .before .before .before .before .before .before .in-modules .ensures))))

@@ -2,17 +2,12 @@ use Rattle.resolver.proofs.Modules.{modules-long, modules-there}
 use borrow.Author.Needs.{needs}
 use Rattle.resolver.proofs.in_modules.Statement.{statement}
 use Rattle.resolver.proofs.in_modules.Tie as tie
-use Rattle.resolver.proofs.in_modules.Reads as reads
-use Rattle.resolver.proofs.in_modules.Lts as lts
-use Rattle.consults.proofs.refused.Reads as refused-reads
-use Rattle.path.proofs.first.Reads as first-reads
-use Rattle.path.proofs.normalize_with.Reads as normalize-with-reads
-use Rattle.resolver.proofs.in_package.Reads as in-package-reads
 
 pub in-modules-spec : {M : Type 1} → statement M
 in-modules-spec =
     tie.close
     (tie.spec
+    (λ c κs. search needs)
     (λ c κs. search needs)
     (λ c κs. search needs)
     (λ c. rw (c .refused .ensures) (modules-long _ _ _ _ _ _ _ (c .before .before .normalize-with .ensures) (c .before .if1 .taken)))

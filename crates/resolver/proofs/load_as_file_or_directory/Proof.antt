@@ -2,18 +2,12 @@ use Rattle.resolver.proofs.Modules.{both-long, file-found, then-directo
 use borrow.Author.Needs.{needs}
 use Rattle.resolver.proofs.load_as_file_or_directory.Statement.{statement}
 use Rattle.resolver.proofs.load_as_file_or_directory.Tie as tie
-use Rattle.resolver.proofs.load_as_file_or_directory.Reads as reads
-use Rattle.resolver.proofs.load_as_file_or_directory.Lts as lts
-use Rattle.consults.proofs.refused.Reads as refused-reads
-use Rattle.path.proofs.first.Reads as first-reads
-use Rattle.path.proofs.normalize_with.Reads as normalize-with-reads
-use Rattle.resolver.proofs.load_directory_or_file.Reads as load-directory-or-file-reads
-use Rattle.resolver.proofs.load_file_first.Reads as load-file-first-reads
 
 pub load-as-file-or-directory-spec : {M : Type 1} → statement M
 load-as-file-or-directory-spec =
     tie.close
     (tie.spec
+    (λ c κs. search needs)
     (λ c κs. search needs)
     (λ c κs. search needs)
     (λ c. rw (c .refused .ensures) (both-long _ _ _ _ _ _ (c .before .before .normalize-with .ensures) _ (c .before .if1 .taken)))
@@ -27,7 +21,7 @@ load-as-file-or-directory-spec =
     (λ c.
     let f = c .before .before .before .before .before .before .before .before .load-file-first in
     file-found _ _ _ _ _ _ (c .before .before .before .before .before .before .before .before .before .before .before .before .before .before .before .before .before .normalize-with .ensures) (c .before .before .before .before .before .before .before .before .before .before .before .before .before .before .before .before .if1 .left) (f .result .way) (rw (c .before .before .before .before .before .before .before .before .before .before .before .before .first .ensures) at (f .ensures)) (c .before .match .keys2))
-    (λ c κs. c .before .before .before .before .before .before .before .before .before .before .before .before .before .before .before .before .before .before .before .before .before .before .before .before .before .before .before .before .before .before .before .pre)
+    (λ c κs. c .before .before .before .before .before .before .before .before .before .before .before .before .before .before .before .before .before .before .before .before .before .before .before .before .before .before .before .before .before .before .before .before .before .pre)
     (λ c. search needs)
     (λ c. search needs)
     (λ c. search needs)

@@ -6,14 +6,6 @@ use Rattle.resolver.proofs.Modules.{stays, stays-inside, climbs-out, no
 use borrow.Author.Needs.{needs}
 use Rattle.resolver.proofs.load_climbing.Statement.{statement}
 use Rattle.resolver.proofs.load_climbing.Tie as tie
-use Rattle.resolver.proofs.load_climbing.Reads as reads
-use Rattle.resolver.proofs.load_climbing.Lts as lts
-use Rattle.consults.proofs.next.Reads as next-reads
-use Rattle.path.proofs.first.Reads as first-reads
-use Rattle.resolver.proofs.load_node_modules.Reads as load-node-modules-reads
-use Rattle.specifier.proofs.climbs.Reads as climbs-reads
-use Rattle.specifier.proofs.may_climb.Reads as may-climb-reads
-use Rattle.specifier.proofs.normalized.Reads as normalized-reads
 
 pub load-climbing-spec : {M : Type 1} → statement M
 load-climbing-spec =
@@ -28,21 +20,22 @@ load-climbing-spec =
     (λ c κs. search needs)
     (λ c κs. search needs)
     (λ c κs. search needs)
+    (λ c κs. search needs)
     (λ c.
-    let m = c .before .before .before .before .before .before .before .before .before .may-climb in
+    let m = c .before .before .before .before .before .before .before .before .before .before .before .may-climb in
     let k = c .before .before .climbs in
-    let p = c .before .before .before .first .ensures ∙ normalized-here _ _ _ (c .before .before .before .before .before .before .before .before .before .before .before .before .before .before .before .before .before .before .pre .1) (c .before .before .before .before .before .before .before .normalized .ensures) in
-    rw (c .next2 .ensures) (stays-inside _ _ (m .result) (k .result) (m .ensures) (not-false (m .result) (c .before .before .before .before .before .before .before .before .if1 .left)) (rw p at (k .ensures)) _ (not-true (k .result) (c .before .if2 .taken))))
+    let p = c .before .before .before .first .ensures ∙ normalized-here _ _ _ (c .before .before .before .before .before .before .before .before .before .before .before .before .before .before .before .before .before .before .before .before .pre .1) (c .before .before .before .before .before .before .before .normalized .ensures) in
+    rw (c .next2 .ensures) (stays-inside _ _ (m .result) (k .result) (m .ensures) (not-false (m .result) (c .before .before .before .before .before .before .before .before .before .before .if1 .left)) (rw p at (k .ensures)) _ (not-true (k .result) (c .before .if2 .taken))))
     (λ c κs.
-    let h = c .before .before .before .before .before .before .before .before .before .before .before .before .before .before .before .before .before .before .before .before .before .pre in
+    let h = c .before .before .before .before .before .before .before .before .before .before .before .before .before .before .before .before .before .before .before .before .before .before .before .pre in
     let p = c .before .before .before .before .before .before .first .ensures ∙ normalized-here _ _ _ (h .1) (c .before .before .before .before .before .before .before .before .before .before .normalized .ensures) in
-    (h .0, rw p (omega (arith, normalized-short 512 (c .before .before .before .before .before .before .before .before .before .before .before .before .before .before .before .before .before .before .before .before .before .args .spec .now) (h .1)))))
+    (h .0, rw p (omega (arith, normalized-short 512 (c .before .before .before .before .before .before .before .before .before .before .before .before .before .before .before .before .before .before .before .before .before .before .before .args .spec .now) (h .1)))))
     (λ c. search needs)
     (λ c. search needs)
     (λ c. search needs)
     (λ c. search needs)
     (λ c.
-    let m = c .before .before .before .before .before .before .before .before .before .before .before .before .before .before .before .before .before .before .before .before .before .may-climb in
+    let m = c .before .before .before .before .before .before .before .before .before .before .before .before .before .before .before .before .before .before .before .before .before .before .before .may-climb in
     let k = c .before .before .before .before .before .before .before .before .before .before .before .before .before .before .climbs in
-    let p = c .before .before .before .before .before .before .before .before .before .before .before .before .before .before .before .first .ensures ∙ normalized-here _ _ _ (c .before .before .before .before .before .before .before .before .before .before .before .before .before .before .before .before .before .before .before .before .before .before .before .before .before .before .before .before .before .before .pre .1) (c .before .before .before .before .before .before .before .before .before .before .before .before .before .before .before .before .before .before .before .normalized .ensures) in
-    climbs-out _ _ (m .result) (k .result) (m .ensures) (not-false (m .result) (c .before .before .before .before .before .before .before .before .before .before .before .before .before .before .before .before .before .before .before .before .if1 .left)) (rw p at (k .ensures)) (not-false (k .result) (c .before .before .before .before .before .before .before .before .before .before .before .before .before .if2 .left)) (rw p at (c .before .before .before .before .before .before .before .before .load-node-modules .ensures))))
+    let p = c .before .before .before .before .before .before .before .before .before .before .before .before .before .before .before .first .ensures ∙ normalized-here _ _ _ (c .before .before .before .before .before .before .before .before .before .before .before .before .before .before .before .before .before .before .before .before .before .before .before .before .before .before .before .before .before .before .before .before .pre .1) (c .before .before .before .before .before .before .before .before .before .before .before .before .before .before .before .before .before .before .before .normalized .ensures) in
+    climbs-out _ _ (m .result) (k .result) (m .ensures) (not-false (m .result) (c .before .before .before .before .before .before .before .before .before .before .before .before .before .before .before .before .before .before .before .before .before .before .if1 .left)) (rw p at (k .ensures)) (not-false (k .result) (c .before .before .before .before .before .before .before .before .before .before .before .before .before .if2 .left)) (rw p at (c .before .before .before .before .before .before .before .before .load-node-modules .ensures))))

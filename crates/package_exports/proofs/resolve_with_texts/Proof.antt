@@ -1,11 +1,11 @@
 use native.Mathlib.Omega.{arith}
 use borrow.Author.Needs.{needs}
 use Rattle.package_exports.proofs.Matches.{part-first}
-use Rattle.package_exports.proofs.resolve_in_context.Statement.{statement}
-use Rattle.package_exports.proofs.resolve_in_context.Tie as tie
+use Rattle.package_exports.proofs.resolve_with_texts.Statement.{statement}
+use Rattle.package_exports.proofs.resolve_with_texts.Tie as tie
 
-pub resolve-in-context-spec : {M : Type 1} → statement M
-resolve-in-context-spec =
+pub resolve-with-texts-spec : {M : Type 1} → statement M
+resolve-with-texts-spec =
     tie.close
     (tie.spec
     (λ c. search needs)
