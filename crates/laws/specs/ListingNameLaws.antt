@@ -1,19 +1,19 @@
 -- A path in a listing, by its last component: where the parent is a path, only the last component is left to test. Assumes nothing.
 use mathlib.Core.Path.{_≡_, refl, sym, _∙_, ap}
 use Prim.Native.Nat.{ℕ, zero, suc, _+_, _-_, _≤_, _<_, max}
-use mathlib.Core.Bool.{Bool, true, false, not, _&&_, _||_, true≢false, false≢true, and-false}
+use mathlib.Core.Bool.{Bool, true, false, not, _&&_, _||_, true≢false, false≢true}
 use mathlib.Core.List.{[], _∷_, _++_}
 use native.Mathlib.Omega.{arith}
-use borrow.Author.Tests.{eqb-true, eq-eqb, ne-eqb, lt-ltb}
+use borrow.Author.Tests.{eqb-true, eq-eqb, ne-eqb}
 use lib.Dec.{eqb}
-use lib.ListN.{length, drop, take, getD, length-append, length-drop, drop-of-length-le}
-use lib.Seq.{length-take-le, take-suc, take-all, drop-cons, split-at as cut-at}
+use lib.ListN.{length, drop, take, getD, length-append, length-drop}
+use lib.Seq.{length-take-le, take-suc, take-all, split-at as cut-at}
 use native.Mathlib.Numerals.{add-one}
-use Rattle.definition.specs.Text.{Text, text, slash, equal, startsWith, contains, count, before, beforeLast, split, all, due, isUtf8, isUtf8From, dueAfter}
+use Rattle.definition.specs.Text.{Text, text, slash, equal, startsWith, contains, count, beforeLast, split, all, due, isUtf8, isUtf8From, dueAfter}
 use Rattle.laws.specs.TextLaws.{and-true, equal-refl, equal-true}
-use Rattle.laws.specs.TextSteps.{equal-lengths, before-inside, contains-not, last-at}
+use Rattle.laws.specs.TextSteps.{equal-lengths, last-at}
 use Rattle.definition.specs.Path.{parent, depth, nameOf}
-use Rattle.laws.specs.PathSteps.{LastAt, not-contains, contains-append, count-append, count-none, all-append, split-last, split-none, utf8-append, parent-root, parent-some, name-whole, name-behind, last-inside, last-missing, last-found}
+use Rattle.laws.specs.PathSteps.{LastAt, contains-append, count-append, count-none, all-append, split-last, split-none, utf8-append, parent-root, parent-some, name-whole, name-behind, last-inside, last-missing, last-found}
 use Rattle.definition.specs.Listing.{isComponent, isPath, isManifest}
 use Rattle.laws.specs.ListingSteps.{at-or-under}
 use mathlib.Core.Logic.{_⊎_, inl, inr}
@@ -55,54 +55,6 @@ component-dots [] h e f = let z : ⊥ = omega arith in absurd z
 component-dots (x ∷ []) h e f = let z : ⊥ = omega arith in absurd z
 component-dots (x ∷ y ∷ []) h e f = rw (eq-eqb x 46 e, eq-eqb y 46 f)
 component-dots (x ∷ y ∷ z ∷ c) h e f = rw (eq-eqb x 46 e, eq-eqb y 46 f, ne-eqb (length (x ∷ y ∷ z ∷ c)) 2 (λ k. omega arith))
-
--- what ASCII bytes other than 0 leave to test
-pub record Plain (c : Text) (i : ℕ) : Type 0 where
-  pub inside : i ≤ length c
-  pub utf8 : isUtf8 (drop i c) ≡ isUtf8 c
-  pub zeros : contains 0 (drop i c) ≡ contains 0 c
-
-pub plain-start : (c : Text) → Plain c 0
-plain-start c = record { inside = omega arith; utf8 = refl; zeros = refl }
-
-ascii-utf8 : (b : ℕ) (s : Text) → b < 128 → isUtf8 (b ∷ s) ≡ isUtf8 s
-unfolding isUtf8 isUtf8From dueAfter
-ascii-utf8 b s h = rw (lt-ltb b 128 h)
-
-pub plain-next : (c : Text) (i : ℕ) → Plain c i → i < length c → (getD c i 0 ≡ 0 → ⊥) → getD c i 0 < 128 → Plain c (i + 1)
-plain-next c i p h z k = record {
-  inside = omega arith;
-  utf8 = rw (add-one i) (sym (ascii-utf8 (getD c i 0) (drop (suc i) c) k) ∙ ap isUtf8 (sym (drop-cons c i 0 h)) ∙ p .utf8);
-  zeros = sym (contains-not 0 c i h z) ∙ p .zeros;
-}
-
-module _ (c : Text) (i : ℕ) (p : Plain c i) (k : isComponent c ≡ true) where
-  pub name-plain : i ≡ length c → isName c ≡ true
-  unfolding isName
-  name-plain e =
-      let d : drop i c ≡ [] = drop-of-length-le c {i = i} (omega arith) in
-      let u : isUtf8 c ≡ true = sym (p .utf8) ∙ ap isUtf8 d ∙ (unfold isUtf8 isUtf8From in refl) in
-      let z : contains 0 c ≡ false = sym (p .zeros) ∙ ap (contains 0) d ∙ (unfold contains in refl) in
-      rw (k, u, z)
-
-  module _ (e : ℕ) (f : e ≡ i + length (before 0 (drop i c))) where
-    no-zero : not (contains 0 c) ≡ eqb (length (before 0 (drop i c))) (length (drop i c))
-    no-zero = ap not (sym (p .zeros)) ∙ not-contains 0 (drop i c)
-
-    pub name-zero : e < length c → isName c ≡ false
-    unfolding isName
-    name-zero h = rw (no-zero ∙ ne-eqb (length (before 0 (drop i c))) (length (drop i c)) (λ z. omega (arith, length-drop i c))) (and-false (isComponent c && isUtf8 c))
-
-    pub name-utf8 : length c ≤ e → isName c ≡ isUtf8 (take (length c - i) (drop i c))
-    unfolding isName
-    name-utf8 h =
-        let n : not (contains 0 c) ≡ true = no-zero ∙ eq-eqb (length (before 0 (drop i c))) (length (drop i c)) (omega (arith, p .inside, length-drop i c, before-inside 0 (drop i c))) in
-        let t : take (length c - i) (drop i c) ≡ drop i c = take-all (length c - i) (drop i c) (omega (arith, length-drop i c)) in
-        rw (k, n, t, p .utf8) (ends (isUtf8 c))
-      where
-        ends : (t : Bool) → t && true ≡ t
-        ends true = refl
-        ends false = refl
 
 -- a path without "/", and one with two at its start
 pub path-no-slash : (q : Text) → contains slash q ≡ false → isPath q ≡ false

@@ -135,7 +135,7 @@ fn shared(p: &[u8], q: &[u8]) -> usize
     i
 }
 
-// Equal texts, compared four bytes at a time: two paths of a listing often differ only at their ends.
+// Equal texts, compared four bytes at a time.
 fn same(a: &[u8], b: &[u8]) -> bool
     ensures { λ r. ⌜ r ≡ equal (now (a .entry)) (now (b .entry)) ⌝ }
 {
@@ -143,7 +143,7 @@ fn same(a: &[u8], b: &[u8]) -> bool
     text::equal(&a[k..], &b[k..])
 }
 
-// The lengths are compared before any byte.
+// The lengths are compared before any byte, and the last bytes before the others: paths of a listing share long beginnings.
 fn matches(l: &[u8], at: usize, end: usize, path: &[u8]) -> bool
     requires { ⌜ at ≤ end ⌝ }
     ensures { λ r. ⌜ r ≡ (leb end (length (now (l .entry))) && equal (part (now (l .entry)) at end) (now (path .entry))) ⌝ }
@@ -152,6 +152,12 @@ fn matches(l: &[u8], at: usize, end: usize, path: &[u8]) -> bool
         return false;
     }
     if end > l.len() {
+        return false;
+    }
+    if end == at {
+        return true;
+    }
+    if l[end - 1] != path[end - at - 1] {
         return false;
     }
     same(&l[at..end], path)
