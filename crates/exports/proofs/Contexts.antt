@@ -92,6 +92,3 @@ unfolding overwrite
 first-text t d h =
     let z : length d - 0 ≡ length d = omega arith in
     rw (z, take-all (length d) t h, take-append-le (length t) t (drop (0 + length t) d) (omega arith)) (take-all (length t) t (omega arith))
-
-pub first-put : (t d w : List ℕ) → w ≡ overwrite 0 t d → length t ≤ length d → take (length t) w ≡ t
-first-put t d w e h = ap (take (length t)) e ∙ first-text t d h

@@ -4,7 +4,7 @@ use mathlib.Core.Bool.{Bool, true, false, _&&_}
 use mathlib.Core.List.{List, [], _∷_, _++_, flatMap}
 use Prim.Native.Nat.{ℕ, zero, suc, _+_, _*_, _-_, _/_, _<_, _≤_}
 use native.Mathlib.Omega.{arith}
-use lib.ListN.{length, take, drop, getD, length-append}
+use lib.ListN.{length, take, drop, getD, length-append, length-take}
 use lib.Dec.{eqb, ltb}
 use borrow.Author.Tests.{lt-ltb}
 use Rattle.definition.specs.Text.{text, if_then_else_, hash, question, containsText, startsWith, before, from, utf8, trail}
@@ -13,16 +13,16 @@ use Rattle.definition.specs.Path.{limited}
 use Rattle.definition.specs.Specifier.{Specifier, parsed, emptySpecifier, body, unescape, pathBefore, orEmpty, parseSpecifier}
 use Rattle.definition.specs.Exports as exports
 use Rattle.definition.specs.Exports.{Request, withQueryFragment, targetPath, normalizeStringTarget, invalidTarget, stringTarget}
-use Rattle.path.specs.Meaning.{pathOf}
+use Rattle.path.specs.Meaning.{pathAt}
 use Rattle.specifier.specs.declared.Specifier as answer
-use Rattle.specifier.specs.Meaning.{parts, noPath, partsOf, meant}
+use Rattle.specifier.specs.Meaning.{parts, noPath, partsOf, pathText, meant}
 use Rattle.specifier.proofs.Parsed.{body-take, body-inside}
 use Rattle.exports.specs.declared.Part.{Part}
 use Rattle.exports.specs.declared.Context.{Context}
 use Rattle.exports.specs.declared.Outcome.the-variants.{Empty, InvalidTarget}
 use Rattle.exports.specs.Contexts.{stringAt, partText, Inside, contextOf}
-use Rattle.exports.specs.Answers.{pathText, outcomeIn, resolved}
-use Rattle.exports.proofs.Targets.{path-text}
+use Rattle.exports.specs.Answers.{outcomeIn, resolved, pathTarget}
+use Rattle.exports.proofs.Targets.{limited-same, path-text}
 use Rattle.exports.proofs.Contexts.{query-part, query-inside, fragment-part, fragment-inside}
 
 -- a path of bytes is at most twice as long as its specifier
@@ -81,11 +81,20 @@ parsed-size s p q f h e = go (pathBefore (body s)) (from question (body s)) (dro
     go [] y z l g = absurd (let o : _≡_ {A = ℕ} 0 1 = cc in omega arith)
     go (b ∷ x) y z l g = let i : b ∷ x ≡ p = cc in omega (arith, ap length i, body-inside s)
 
+-- the path of a target: with "./" in front, and without
+module _ (q : Request) (t : List ℕ) where
+  pub path-valid : startsWith (text "./") t ≡ true → targetPath q (normalizeStringTarget (q .key) t (q .matched)) ≡ pathTarget q t
+  path-valid h = rw h
+
+  pub path-invalid : startsWith (text "./") t ≡ false → outcomeIn (q .packageURL) (q .key) (q .matched) InvalidTarget t ≡ pathTarget q t
+  unfolding invalidTarget
+  path-invalid h = rw h
+
 -- what `Specifier::parse` gives
 pub record Parsed (s : List ℕ) (r : answer.Specifier) : Type 0 where
   pub path : List ℕ
   pub is : parseSpecifier s ≡ parsed path (drop (r .query) (take (r .fragment) s)) (drop (r .fragment) s)
-  pub limits : pathOf (r .path) ≡ limited path
+  pub limits : limited (pathText (r .escaped) (take (r .query) s)) ≡ limited path
 
 module _ (s : List ℕ) (r : answer.Specifier) (e : meant s r ≡ partsOf (parseSpecifier s)) where
   pub is-empty : r .empty ≡ true → parseSpecifier s ≡ emptySpecifier
@@ -100,7 +109,7 @@ module _ (s : List ℕ) (r : answer.Specifier) (e : meant s r ≡ partsOf (parse
   unfolding meant
   is-parsed h = go (parseSpecifier s) refl (rw h at e)
     where
-      go : (x : Specifier) → parseSpecifier s ≡ x → parts (pathOf (r .path)) (drop (r .query) (take (r .fragment) s)) (drop (r .fragment) s) ≡ partsOf x → Parsed s r
+      go : (x : Specifier) → parseSpecifier s ≡ x → parts (limited (pathText (r .escaped) (take (r .query) s))) (drop (r .query) (take (r .fragment) s)) (drop (r .fragment) s) ≡ partsOf x → Parsed s r
       go (parsed p q f) i g = record { path = p; is = cc; limits = cc }
       go emptySpecifier i g = absurd (let o : _≡_ {A = ℕ} 0 1 = cc in omega arith)
 
@@ -110,24 +119,28 @@ module _ (s : List ℕ) (r : answer.Specifier) (e : meant s r ≡ partsOf (parse
     string-empty h = rw (is-empty h)
 
     module _ (b : Bytes s) (h : r .empty ≡ false) (d : Context)
-        (w : contextOf m d ≡ withQueryFragment (contextOf m c) (drop (r .query) (take (r .fragment) s)) (drop (r .fragment) s))
-        (t : List ℕ) (f : t ≡ pathText (r .path)) where
-      text-is : t ≡ is-parsed h .path
-      text-is = let p = is-parsed h in f ∙ path-text (r .path) (p .path) (p .limits) (omega (arith, parsed-size s (p .path) (drop (r .query) (take (r .fragment) s)) (drop (r .fragment) s) b (p .is)))
+        (w : contextOf m d ≡ withQueryFragment (contextOf m c) (drop (r .query) (take (r .fragment) s)) (drop (r .fragment) s)) where
+      path-short : length (is-parsed h .path) ≤ 2048
+      path-short = let p = is-parsed h in omega (arith, parsed-size s (p .path) (drop (r .query) (take (r .fragment) s)) (drop (r .fragment) s) b (p .is))
 
-      pub text-fits : length t ≤ 2048
-      text-fits = let p = is-parsed h in omega (arith, ap length text-is, parsed-size s (p .path) (drop (r .query) (take (r .fragment) s)) (drop (r .fragment) s) b (p .is))
-
-      whole : (o : exports.Outcome) → o ≡ (if startsWith (text "./") t then targetPath q (normalizeStringTarget (q .key) t (q .matched)) else invalidTarget q t) → resolved m d o ≡ stringTarget q (parseSpecifier s) s (contextOf m c)
+      -- what stands before the query has the path t, which gives o
+      whole : (t : List ℕ) → t ≡ pathText (r .escaped) (take (r .query) s) → (o : exports.Resolved) → (length t ≤ 2048 → o ≡ resolved m d (pathTarget q t)) → o ≡ stringTarget q (parseSpecifier s) s (contextOf m c)
       unfolding stringTarget
-      whole o g = rw (is-parsed h .is, w, g, text-is)
+      whole t f o g =
+          let i : t ≡ is-parsed h .path = f ∙ limited-same _ (is-parsed h .path) (is-parsed h .limits) path-short in
+          g (omega (arith, ap length i, path-short)) ∙ rw (is-parsed h .is, w, i)
 
-      pub string-valid : startsWith (text "./") t ≡ true → resolved m d (targetPath q (normalizeStringTarget (q .key) t (q .matched))) ≡ stringTarget q (parseSpecifier s) s (contextOf m c)
-      string-valid g = whole _ (rw g)
+      -- it is the path itself, or the path was written to a buffer
+      module _ (u : List ℕ) (i : u ≡ take (r .query) s) (o : exports.Resolved) where
+        pub plain-path : r .escaped ≡ false → (length u ≤ 2048 → o ≡ resolved m d (pathTarget q u)) → o ≡ stringTarget q (parseSpecifier s) s (contextOf m c)
+        plain-path f = whole u (rw f i) o
 
-      pub string-invalid : startsWith (text "./") t ≡ false → resolved m d (outcomeIn (q .packageURL) (q .key) (q .matched) InvalidTarget t) ≡ stringTarget q (parseSpecifier s) s (contextOf m c)
-      unfolding invalidTarget
-      string-invalid g = whole _ (rw g)
+        pub escaped-path : r .escaped ≡ true → (x t : List ℕ) (n : ℕ) → pathAt x n ≡ limited (pathText true u) → t ≡ take n x → (length t ≤ 2048 → o ≡ resolved m d (pathTarget q t)) → o ≡ stringTarget q (parseSpecifier s) s (contextOf m c)
+        escaped-path f x t n k j =
+            let v : Bytes u = rw i (bytes-take (r .query) s b) in
+            let y : length u ≤ length s = omega (arith, ap length i, length-take (r .query) s) in
+            let z : take n x ≡ pathText true u = path-text x n (pathText true u) k (omega (arith, widened-size u v)) in
+            whole t (j ∙ z ∙ rw (f, i)) o
 
 -- the context from the parts that the code cuts out
 module _ (m : List ℕ) (at : ℕ) (s : List ℕ) (i : stringAt m at ≡ s) (q f : ℕ) (g x y : List ℕ) (h : g ≡ take f s) (j : x ≡ take (length s) (drop q g)) (k : y ≡ take (length s) (drop f s)) (c d : Context) where

@@ -1,94 +1,71 @@
 -- The loop that puts the pattern match for every star.
 use mathlib.Core.Path.{_≡_, refl, sym, _∙_, ap}
-use mathlib.Core.List.{List, [], _∷_, _++_, append-assoc, append-nil}
+use mathlib.Core.Bool.{Bool, true, false}
+use mathlib.Core.List.{List, [], _∷_, _++_, append-assoc}
 use Prim.Native.Nat.{ℕ, suc, _+_, _-_, _<_, _≤_}
 use native.Mathlib.Omega.{arith}
-use native.Mathlib.Numerals.{add-one}
-use lib.ListN.{length, drop, take, set, getD, length-append, length-set, drop-of-length-le}
-use lib.Seq.{take-suc-set, length-take-le, take-all, take-at, drop-cons}
-use borrow.Author.Tests.{eq-eqb, ne-eqb, le-leb, lt-leb}
-use Rattle.definition.specs.Text.{if_then_else_, star, replace, overwrite}
-use Rattle.definition.specs.Path.{built, limited}
+use lib.ListN.{length, drop, take, length-drop}
+use lib.Seq.{drop-drop}
+use lib.Dec.{eqb}
+use Rattle.definition.specs.Text.{if_then_else_, star, before, replace}
+use Rattle.laws.specs.SpecifierLaws.{before-take}
+use Rattle.definition.specs.Path.{Built, built, tooLong, andPath, limited, addExtension}
+use Rattle.laws.specs.PathLaws.{limited-append}
 use Rattle.path.specs.Meaning.{pathAt}
-use Rattle.path.proofs.Steps.{at-fits, at-long}
+use Rattle.path.proofs.Steps.{at-fits}
+
+-- a text with a star, and one without
+module _ (p : List ℕ) where
+  with-star : (s : List ℕ) → length (before star s) < length s → replace star p s ≡ before star s ++ (p ++ replace star p (drop (suc (length (before star s))) s))
+  unfolding before replace
+  with-star [] h = let z : ⊥ = omega arith in absurd z
+  with-star (b ∷ s) h = go (eqb b star) h (with-star s)
+    where
+      go : (u : Bool) → length (if u then [] else b ∷ before star s) < suc (length s) → (length (before star s) < length s → replace star p s ≡ before star s ++ (p ++ replace star p (drop (suc (length (before star s))) s)))
+          → (if u then p else b ∷ []) ++ replace star p s ≡ (if u then [] else b ∷ before star s) ++ (p ++ replace star p (drop (length (if u then [] else b ∷ before star s)) s))
+      go true l ih = refl
+      go false l ih = ap (λ x. b ∷ x) (ih (omega arith))
+
+  no-star : (s : List ℕ) → length s ≤ length (before star s) → replace star p s ≡ before star s
+  unfolding before replace
+  no-star [] h = refl
+  no-star (b ∷ s) h = go (eqb b star) h (no-star s)
+    where
+      go : (u : Bool) → suc (length s) ≤ length (if u then [] else b ∷ before star s) → (length s ≤ length (before star s) → replace star p s ≡ before star s) → (if u then p else b ∷ []) ++ replace star p s ≡ (if u then [] else b ∷ before star s)
+      go true l ih = let z : ⊥ = omega arith in absurd z
+      go false l ih = ap (λ x. b ∷ x) (ih (omega arith))
+
+-- two texts put behind a path, and what is left
+grow : (x : Built) (u v r : List ℕ) → andPath (andPath (andPath x (λ q. addExtension q u)) (λ q. addExtension q v)) (λ q. limited (q ++ r)) ≡ andPath x (λ q. limited (q ++ (u ++ (v ++ r))))
+unfolding addExtension
+grow (built q) u v r =
+    ap (λ b. andPath b (λ q. limited (q ++ r))) (limited-append (q ++ u) v)
+    ∙ limited-append ((q ++ u) ++ v) r
+    ∙ ap limited (append-assoc (q ++ u) v r ∙ append-assoc q u (v ++ r))
+grow tooLong u v r = refl
 
 -- what stands in the buffer, and what is left of the target
-pub record Filling (p t bytes : List ℕ) (n i : ℕ) : Type 0 where
-  pub size : length bytes ≡ 2048
-  pub within : n ≤ 2048
-  pub same : replace star p t ≡ take n bytes ++ replace star p (drop i t)
+abbrev pub Filled : (p t : List ℕ) → Built → ℕ → Type 0
+Filled p t x at = andPath x (λ q. limited (q ++ replace star p (drop at t))) ≡ limited (replace star p t)
 
-overwritten : (n : ℕ) (p bytes : List ℕ) → length p ≤ length bytes - n → overwrite n p bytes ≡ (take n bytes ++ p) ++ drop (n + length p) bytes
-unfolding overwrite
-overwritten n p bytes h = rw (take-all (length bytes - n) p h)
+pub fill-start : (p t out : List ℕ) → Filled p t (pathAt out 0) 0
+fill-start p t out = rw (at-fits out 0 (omega arith))
 
-nothing-left : (p t : List ℕ) (i : ℕ) → length t ≤ i → replace star p (drop i t) ≡ []
-unfolding replace
-nothing-left p t i l = rw (drop-of-length-le t l)
+-- the text from `at` to the next star, which stands at e
+module _ (p t : List ℕ) (at e : ℕ) (h : e ≡ at + length (before star (drop at t))) (x y : Built) (k : y ≡ andPath x (λ q. addExtension q (take (e - at) (drop at t)))) (g : Filled p t x at) where
+  part : take (e - at) (drop at t) ≡ before star (drop at t)
+  part = let d : e - at ≡ length (before star (drop at t)) = omega (arith, h) in rw d (sym (before-take star (drop at t)))
 
-within-limit : (s : List ℕ) → length s ≤ 2048 → limited s ≡ built s
-unfolding limited
-within-limit s h = rw (le-leb (length s) 2048 h)
+  pub fill-last : length t ≤ e → y ≡ limited (replace star p t)
+  unfolding addExtension
+  fill-last l =
+      let r : replace star p (drop at t) ≡ take (e - at) (drop at t) = no-star p (drop at t) (omega (arith, h, length-drop at t)) ∙ sym part in
+      k ∙ rw r at g
 
-module _ {p t bytes : List ℕ} {n i : ℕ} (g : Filling p t bytes n i) where
-  total : (x y : List ℕ) → replace star p (drop i t) ≡ x ++ y → replace star p t ≡ (take n bytes ++ x) ++ y
-  total x y e = g .same ∙ ap (λ z. take n bytes ++ z) e ∙ sym (append-assoc (take n bytes) x y)
-
-  size-of : (x y : List ℕ) → replace star p (drop i t) ≡ x ++ y → n + length x ≤ length (replace star p t)
-  size-of x y e =
-      let a = g .size in
-      let b = g .within in
-      let l = length-take-le n bytes (omega arith) in
-      let k : length (replace star p t) ≡ length (take n bytes) + length x + length y = ap length (total x y e) ∙ simp length-append in
-      omega arith
-
-  over : (w : List ℕ) → 2048 < length (replace star p t) → pathAt w 2049 ≡ limited (replace star p t)
-  unfolding limited
-  over w h = at-long w 2049 (omega arith) ∙ rw (lt-leb (length (replace star p t)) 2048 h)
-
-  module _ (l : i < length t) where
-    star-step : getD t i 0 ≡ 42 → replace star p (drop i t) ≡ p ++ replace star p (drop (i + 1) t)
-    unfolding replace
-    star-step e = rw (drop-cons t i 0 l, add-one i) (rw (eq-eqb (getD t i 0) 42 e))
-
-    byte-step : (getD t i 0 ≡ 42 → ⊥) → replace star p (drop i t) ≡ (getD t i 0 ∷ []) ++ replace star p (drop (i + 1) t)
-    unfolding replace
-    byte-step e = rw (drop-cons t i 0 l, add-one i) (rw (ne-eqb (getD t i 0) 42 e))
-
-    pub star-over : getD t i 0 ≡ 42 → 2048 - n < length p → (w : List ℕ) → pathAt w 2049 ≡ limited (replace star p t)
-    star-over e h w = let a = g .within in let z = size-of p (replace star p (drop (i + 1) t)) (star-step e) in over w (omega arith)
-
-    pub star-on : getD t i 0 ≡ 42 → length p ≤ 2048 - n → (w : List ℕ) → w ≡ overwrite n p bytes → length w ≡ length bytes → Filling p t w (n + length p) (i + 1)
-    star-on e h w f s =
-        let a = g .within in
-        let b = g .size in
-        let l = length-take-le n bytes (omega arith) in
-        let whole : w ≡ (take n bytes ++ p) ++ drop (n + length p) bytes = f ∙ overwritten n p bytes (omega arith) in
-        let k : length (take n bytes ++ p) ≡ n + length p = simp length-append (omega arith) in
-        record {
-          size = s ∙ g .size;
-          within = omega arith;
-          same = total p (replace star p (drop (i + 1) t)) (star-step e) ∙ ap (λ x. x ++ replace star p (drop (i + 1) t)) (sym (ap (take (n + length p)) whole ∙ take-at (take n bytes ++ p) (drop (n + length p) bytes) (n + length p) k));
-        }
-
-    pub byte-over : (getD t i 0 ≡ 42 → ⊥) → 2048 ≤ n → (w : List ℕ) → pathAt w 2049 ≡ limited (replace star p t)
-    byte-over e h w = let z = size-of (getD t i 0 ∷ []) (replace star p (drop (i + 1) t)) (byte-step e) in over w (omega arith)
-
-    pub byte-on : (getD t i 0 ≡ 42 → ⊥) → n < 2048 → Filling p t (set bytes n (getD t i 0)) (n + 1) (i + 1)
-    byte-on e h =
-        let a = g .size in
-        let lt : n < length bytes = omega arith in
-        let put : take (n + 1) (set bytes n (getD t i 0)) ≡ take n bytes ++ (getD t i 0 ∷ []) = rw add-one (take-suc-set bytes n (getD t i 0) lt) in
-        record {
-          size = simp length-set (g .size);
-          within = omega arith;
-          same = total (getD t i 0 ∷ []) (replace star p (drop (i + 1) t)) (byte-step e) ∙ ap (λ x. x ++ replace star p (drop (i + 1) t)) (sym put);
-        }
-
-  pub filled : length t ≤ i → pathAt bytes n ≡ limited (replace star p t)
-  filled l =
-      let is : take n bytes ≡ replace star p t = sym (g .same ∙ ap (λ x. take n bytes ++ x) (nothing-left p t i l) ∙ append-nil (take n bytes)) in
-      let a = g .size in
-      let b = g .within in
-      let f = length-take-le n bytes (omega arith) in
-      at-fits bytes n b ∙ ap built is ∙ sym (within-limit (replace star p t) (omega (arith, ap length is)))
+  pub fill-more : e < length t → (z : Built) → z ≡ andPath y (λ q. addExtension q p) → Filled p t z (e + 1)
+  fill-more l z f =
+      let s = drop at t in
+      let n : at + suc (length (before star s)) ≡ e + 1 = omega (arith, h) in
+      let d : drop (suc (length (before star s))) s ≡ drop (e + 1) t = rw n at (drop-drop (suc (length (before star s))) at t) in
+      let r : replace star p s ≡ take (e - at) s ++ (p ++ replace star p (drop (e + 1) t)) = with-star p s (omega (arith, h, length-drop at t)) ∙ rw (d, part) in
+      rw (f, k, grow x (take (e - at) s) p (replace star p (drop (e + 1) t)), ← r) g

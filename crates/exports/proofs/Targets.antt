@@ -1,50 +1,38 @@
 -- What a target gives.
 use mathlib.Core.Path.{_≡_, refl, sym, _∙_, ap}
-use mathlib.Core.Bool.{Bool, true, false, _||_}
-use mathlib.Core.List.{List, [], _∷_, _++_}
-use mathlib.Core.Option.{Option, none, some}
-use Prim.Native.Nat.{ℕ, suc, _+_, _<_, _≤_}
+use mathlib.Core.Bool.{Bool, true, false}
+use mathlib.Core.List.{List, _++_}
+use Prim.Native.Nat.{ℕ, _+_, _<_, _≤_}
 use native.Mathlib.Omega.{arith}
-use lib.ListN.{length, take, length-append}
-use lib.Dec.{leb, ltb}
-use borrow.Author.Tests.{leb-true, leb-false, le-leb, lt-leb, lt-ltb, le-ltb}
-use Rattle.definition.specs.Text.{text, if_then_else_, star, contains, endsWith, replace}
+use lib.ListN.{length, take}
+use lib.Dec.{leb}
+use borrow.Author.Tests.{leb-true, leb-false, lt-ltb, le-ltb}
+use Rattle.definition.specs.Text.{text, star, contains, endsWith, replace}
 use Rattle.definition.specs.Path.{Built, built, tooLong, andPath, limited, addExtension, normalizeWith, isInvalidExportsTarget}
+use Rattle.laws.specs.PathLaws.{limited-fits, limited-long as limited-over, limited-append}
 use Rattle.definition.specs.Exports as exports
-use Rattle.definition.specs.Exports.{Request, found, failed, overlong, Target, target, directoryError, targetPath, invalidTarget, outcomeOf, normalizeStringTarget}
-use Rattle.path.specs.declared.PathBuf.{PathBuf}
-use Rattle.path.specs.Meaning.{pathAt, pathOf}
+use Rattle.definition.specs.Exports.{Request, found, overlong, target, directoryError, targetPath, invalidTarget, outcomeOf, normalizeStringTarget}
+use Rattle.path.specs.Meaning.{pathAt}
 use Rattle.path.proofs.Steps.{at-fits, at-long}
 use Rattle.exports.specs.declared.Context.{Context}
 use Rattle.exports.specs.declared.Form.{Form}
 use Rattle.exports.specs.declared.Form.the-variants.{Plain, Starred, Folder}
 use Rattle.exports.specs.declared.Outcome.{Outcome}
-use Rattle.exports.specs.declared.Outcome.the-variants.{InvalidTarget, OverLong, ConfigDirectory}
+use Rattle.exports.specs.declared.Outcome.the-variants.{InvalidTarget, ConfigDirectory}
 use Rattle.exports.specs.declared.Answer.{Answer}
-use Rattle.exports.specs.Answers.{pathText, outcomeIn, answerOf, resolved, Formed, Asked}
+use Rattle.exports.specs.Answers.{outcomeIn, answerOf, resolved, Formed, Asked}
 
 clash : {P : Type 0} {x : List ℕ} → built x ≡ tooLong → P
 clash e = absurd (let z : _≡_ {A = ℕ} 0 1 = cc in omega arith)
 
--- an answer without a path, and with one
+-- an answer without a path
 module _ (m : List ℕ) (q : Request) (path : List ℕ) (r : Answer) (c : Context) (o : Outcome) where
   pub outcome-is : (r .context ≡ c) × (r .outcome ≡ o) → answerOf m q path r ≡ resolved m c (outcomeIn (q .packageURL) (q .key) (q .matched) o (take (r .len) path))
   outcome-is e =
       ap (λ x. resolved m x (outcomeIn (q .packageURL) (q .key) (q .matched) (r .outcome) (take (r .len) path))) (e .0)
       ∙ ap (λ x. resolved m c (outcomeIn (q .packageURL) (q .key) (q .matched) x (take (r .len) path))) (e .1)
 
-  pub path-put : (t old : List ℕ) → (r .context ≡ c) × (r .outcome ≡ o) × (length t ≤ length old → take (r .len) path ≡ t) → length t ≤ length old → answerOf m q path r ≡ resolved m c (outcomeIn (q .packageURL) (q .key) (q .matched) o t)
-  path-put t old e l = outcome-is (e .0, e .1) ∙ ap (λ x. resolved m c (outcomeIn (q .packageURL) (q .key) (q .matched) o x)) (e .2 l)
-
 -- a text under the limit
-limited-fits : (t : List ℕ) → length t ≤ 2048 → limited t ≡ built t
-unfolding limited
-limited-fits t h = rw (le-leb (length t) 2048 h)
-
-limited-over : (t : List ℕ) → 2048 < length t → limited t ≡ tooLong
-unfolding limited
-limited-over t h = rw (lt-leb (length t) 2048 h)
-
 limited-text : (t u : List ℕ) → limited t ≡ built u → u ≡ t
 limited-text t u e = go (leb (length t) 2048) refl
   where
@@ -60,19 +48,27 @@ limited-long t e = go (leb (length t) 2048) refl
     go false h = leb-false _ _ h
 
 -- a path of at most 2,048 bytes has its text
-module _ (p : PathBuf) (x : Built) (e : pathOf p ≡ x) where
-  pub text-of : p .len ≤ 2048 → x ≡ built (pathText p)
-  text-of h = sym e ∙ at-fits (p .bytes) (p .len) h
+module _ (b : List ℕ) (n : ℕ) (x : Built) (e : pathAt b n ≡ x) where
+  text-of : n ≤ 2048 → x ≡ built (take n b)
+  text-of h = sym e ∙ at-fits b n h
 
-  pub no-text : 2048 < p .len → x ≡ tooLong
-  no-text h = sym e ∙ at-long (p .bytes) (p .len) h
+  no-text : 2048 < n → x ≡ tooLong
+  no-text h = sym e ∙ at-long b n h
 
-pub path-text : (p : PathBuf) (t : List ℕ) → pathOf p ≡ limited t → length t ≤ 2048 → pathText p ≡ t
-path-text p t e l = go (leb (p .len) 2048) refl
+pub limited-same : (t u : List ℕ) → limited t ≡ limited u → length u ≤ 2048 → t ≡ u
+limited-same t u e l = sym (limited-text t u (e ∙ limited-fits u l))
+
+pub path-text : (b : List ℕ) (n : ℕ) (t : List ℕ) → pathAt b n ≡ limited t → length t ≤ 2048 → take n b ≡ t
+path-text b n t e l = go (leb n 2048) refl
   where
-    go : (b : Bool) → leb (p .len) 2048 ≡ b → pathText p ≡ t
-    go true h = limited-text t (pathText p) (text-of p (limited t) e (leb-true _ _ h))
-    go false h = clash (sym (limited-fits t l) ∙ no-text p (limited t) e (leb-false _ _ h))
+    go : (u : Bool) → leb n 2048 ≡ u → take n b ≡ t
+    go true h = limited-text t (take n b) (text-of b n (limited t) e (leb-true _ _ h))
+    go false h = clash (sym (limited-fits t l) ∙ no-text b n (limited t) e (leb-false _ _ h))
+
+-- an answer with a path
+pub path-put : (m : List ℕ) (q : Request) (path : List ℕ) (r : Answer) (c : Context) (o : Outcome) (t : List ℕ) → (r .context ≡ c) × (r .outcome ≡ o) × (pathAt path (r .len) ≡ limited t) → length t ≤ 2048 → answerOf m q path r ≡ resolved m c (outcomeIn (q .packageURL) (q .key) (q .matched) o t)
+path-put m q path r c o t e l =
+    outcome-is m q path r c o (e .0, e .1) ∙ ap (λ x. resolved m c (outcomeIn (q .packageURL) (q .key) (q .matched) o x)) (path-text path (r .len) t (e .2) l)
 
 -- a target
 module _ (q : Request) (t : List ℕ) where
@@ -89,36 +85,30 @@ module _ (q : Request) (t : List ℕ) where
     unfolding invalidTarget
     target-invalid i = invalid-is i
 
-    module _ (i : isInvalidExportsTarget t ≡ false) (url : List ℕ) (u : q .packageURL ≡ url) (p : PathBuf) (e : pathOf p ≡ normalizeWith url t) where
+    module _ (i : isInvalidExportsTarget t ≡ false) (url : List ℕ) (u : q .packageURL ≡ url) (b : List ℕ) (n : ℕ) (e : pathAt b n ≡ normalizeWith url t) where
       path-is : outcomeOf (normalizeWith url t) ≡ targetPath q (target t)
       unfolding targetPath
       path-is = rw (le-ltb 2048 (length t) h, i, u)
 
-      pub path-over : 2048 < p .len → overlong ≡ targetPath q (target t)
+      pub path-over : 2048 < n → overlong ≡ targetPath q (target t)
       unfolding outcomeOf
-      path-over l = sym (ap outcomeOf (no-text p (normalizeWith url t) e l)) ∙ path-is
+      path-over l = sym (ap outcomeOf (no-text b n (normalizeWith url t) e l)) ∙ path-is
 
-      pub path-found : p .len ≤ 2048 → found (pathText p) ≡ targetPath q (target t)
+      pub path-found : n ≤ 2048 → found (take n b) ≡ targetPath q (target t)
       unfolding outcomeOf
-      path-found l = sym (ap outcomeOf (text-of p (normalizeWith url t) e l)) ∙ path-is
+      path-found l = sym (ap outcomeOf (text-of b n (normalizeWith url t) e l)) ∙ path-is
 
 -- a target that was built
-module _ (q : Request) (x : List ℕ) (p : PathBuf) (e : pathOf p ≡ limited x) where
-  pub built-over : 2048 < p .len → overlong ≡ targetPath q (target x)
-  built-over l = target-over q x (limited-long x (no-text p (limited x) e l))
+module _ (q : Request) (x b : List ℕ) (n : ℕ) (e : pathAt b n ≡ limited x) where
+  pub built-over : 2048 < n → overlong ≡ targetPath q (target x)
+  built-over l = target-over q x (limited-long x (no-text b n (limited x) e l))
 
-  pub built-text : p .len ≤ 2048 → (s : List ℕ) → s ≡ pathText p → targetPath q (target s) ≡ targetPath q (target x)
-  built-text l s f = ap (λ y. targetPath q (target y)) (f ∙ limited-text x (pathText p) (text-of p (limited x) e l))
+  pub built-text : n ≤ 2048 → (s : List ℕ) → s ≡ take n b → targetPath q (target s) ≡ targetPath q (target x)
+  built-text l s f = ap (λ y. targetPath q (target y)) (f ∙ limited-text x (take n b) (text-of b n (limited x) e l))
 
 pub appended : (t m : List ℕ) → andPath (limited t) (λ p. addExtension p m) ≡ limited (t ++ m)
 unfolding addExtension
-appended t m = go (leb (length t) 2048) refl
-  where
-    go : (b : Bool) → leb (length t) 2048 ≡ b → andPath (limited t) (λ p. limited (p ++ m)) ≡ limited (t ++ m)
-    go true h = ap (λ b. andPath b (λ p. limited (p ++ m))) (limited-fits t (leb-true _ _ h))
-    go false h =
-        let l : 2048 < length t = leb-false _ _ h in
-        ap (λ b. andPath b (λ p. limited (p ++ m))) (limited-over t l) ∙ sym (limited-over (t ++ m) (omega (arith, length-append t m)))
+appended t m = limited-append t m
 
 -- `normalize_string_target`
 module _ {q : Request} {url : List ℕ} {form : Form} {pattern : List ℕ} (a : Asked q url form pattern) (t : List ℕ) where

@@ -5,16 +5,15 @@ use mathlib.Core.Bool.{Bool, true, false}
 use mathlib.Core.List.{List}
 use mathlib.Core.Option.{Option, none, some}
 use lib.ListN.{take}
-use Rattle.definition.specs.Text.{text, star, contains, endsWith}
+use Rattle.definition.specs.Text.{text, if_then_else_, star, contains, startsWith, endsWith}
 use Rattle.definition.specs.Path.{manifestOf}
 use Rattle.definition.specs.Exports as exports
-use Rattle.definition.specs.Exports.{Request, found, nothing, failed, overlong, InvalidPackageTarget, InvalidPackageConfig, InvalidPackageConfigDirectory, pathNotExported, orDot, PACKAGE-TARGET-RESOLVE}
+use Rattle.definition.specs.Exports.{Request, found, nothing, failed, overlong, InvalidPackageTarget, InvalidPackageConfig, InvalidPackageConfigDirectory, normalizeStringTarget, targetPath, invalidTarget, pathNotExported, orDot, PACKAGE-TARGET-RESOLVE}
 use Rattle.definition.specs.Json.{Json}
 use Rattle.definition.specs.Settings.{textsOf}
 use Rattle.exports.specs.Places.{Stands}
 use Rattle.package_json.specs.declared.Cursor.{Cursor}
 use Rattle.package_json.specs.declared.Cursor.the-variants.{At, Nothing as Done}
-use Rattle.path.specs.declared.PathBuf.{PathBuf}
 use Rattle.exports.specs.declared.Context.{Context}
 use Rattle.exports.specs.declared.Form.{Form}
 use Rattle.exports.specs.declared.Form.the-variants.{Plain, Starred, Folder}
@@ -22,10 +21,6 @@ use Rattle.exports.specs.declared.Outcome.{Outcome}
 use Rattle.exports.specs.declared.Outcome.the-variants.{Found, Nothing, Empty, InvalidTarget, NotExportedMatch, NotExported, ConfigMixed, ConfigDirectory, OverLong}
 use Rattle.exports.specs.declared.Answer.{Answer}
 use Rattle.exports.specs.Contexts.{contextOf}
-
--- the text of a path that is not over-long
-abbrev pub pathText : PathBuf → List ℕ
-pathText p = take (p .len) (p .bytes)
 
 -- an outcome for a package's directory, the key that led to the target and the pattern match; t is the path, or the target that a failure speaks of
 abbrev pub outcomeIn : (url key : List ℕ) → Option (List ℕ) → Outcome → (t : List ℕ) → exports.Outcome
@@ -45,6 +40,10 @@ resolved m c o = record { context = contextOf m c; outcome = o }
 -- an answer, whose text is the first of the bytes in the path buffer
 abbrev pub answerOf : (m : List ℕ) → Request → (path : List ℕ) → Answer → exports.Resolved
 answerOf m q path r = resolved m (r .context) (outcomeIn (q .packageURL) (q .key) (q .matched) (r .outcome) (take (r .len) path))
+
+-- the path of a target, its query and its fragment cut off
+abbrev pub pathTarget : Request → List ℕ → exports.Outcome
+pathTarget q t = if startsWith (text "./") t then targetPath q (normalizeStringTarget (q .key) t (q .matched)) else invalidTarget q t
 
 -- a request, as far as it decides what a target gives
 abbrev pub Formed : Request → Form → (pattern : List ℕ) → Type 0

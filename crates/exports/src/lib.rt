@@ -5,7 +5,7 @@ use specifier::Specifier;
 ghost use mathlib.Core.Path.{_≡_};
 ghost use mathlib.Core.List.{List, [], _++_};
 ghost use Prim.Native.Nat.{ℕ, _+_, _-_, _≤_, _<_, suc};
-ghost use lib.ListN.{length, drop, take};
+ghost use lib.ListN.{length, drop};
 ghost use mathlib.Core.Bool.{_&&_, _||_};
 ghost use lib.Dec.{leb};
 ghost use Rattle.definition.specs.Text.{text, star, equal, endsWith, isOneOf, replace, overwrite};
@@ -15,12 +15,12 @@ ghost use Rattle.definition.specs.Json.{Json, str, arr, obj, Members, member, E
 ghost use Rattle.laws.specs.JsonAtLaws as values;
 ghost use Rattle.exports.specs.Places.{Stands, MembersAt, ElementsAt, MembersFrom, ElementsFrom, kindOf, Finds};
 ghost use Rattle.definition.specs.Path.{limited};
-ghost use Rattle.path.specs.Meaning.{pathOf};
+ghost use Rattle.path.specs.Meaning.{pathAt};
 ghost use Rattle.definition.specs.Exports.{PATTERN-KEY-COMPARE, isSubpathKey, starMatch, patternMatch, orOld, withQueryFragment, Request, target, targetPath, normalizeStringTarget, stringTarget, isDotKey, anyKey, Entry, entries, get as getOf, better as betterOf, best as bestOf, literal, bestResolve, mainExport, mainResolve, PACKAGE-IMPORTS-EXPORTS-RESOLVE, PACKAGE-EXPORTS-RESOLVE};
 ghost use Rattle.definition.specs.Specifier.{parseSpecifier};
 ghost use Rattle.exports.specs.Keys.{rankOf, orderOf, matchOf};
 ghost use Rattle.exports.specs.Contexts.{stringAt, partText, Inside, contextOf};
-ghost use Rattle.exports.specs.Answers.{answerOf, resolved, Asked, isNothing, isFinal, isSome, isPassed, Resolves};
+ghost use Rattle.exports.specs.Answers.{answerOf, resolved, pathTarget, Asked, isNothing, isFinal, isSome, isPassed, Resolves};
 ghost use Rattle.exports.specs.Chosen.{aKey, joinedKeys, keysOf, BestOf, formOf, resolvedOf, fresh, dotRequest, keysOrNot, IsWhole};
 
 pub enum Order {
@@ -222,32 +222,22 @@ pub fn part_text(m: &[u8], p: Part, w: &mut [u8]) -> usize
     part.len()
 }
 
-// The target with every star replaced by the pattern match.
-fn substitute(t: &[u8], pattern: &[u8]) -> PathBuf
-    ensures { λ r. ⌜ pathOf r ≡ limited (replace star (now (pattern .entry)) (now (t .entry))) ⌝ }
+// The target with every star replaced by the pattern match, written to the bytes of a path. The answer is its length, one over 2,048 where it is
+// over-long.
+fn substitute(t: &[u8], pattern: &[u8], out: &mut [u8; 2048]) -> usize
+    ensures { λ r. ⌜ pathAt (now (out .exit)) r ≡ limited (replace star (now (pattern .entry)) (now (t .entry))) ⌝ }
 {
-    let mut bytes = [0u8; 2048];
-    let mut n: usize = 0;
-    let mut i: usize = 0;
-    while i < t.len() {
-        let b = t[i];
-        if b == b'*' {
-            if pattern.len() > 2048 - n {
-                return PathBuf { bytes, len: 2049 };
-            }
-            text::copy_at(&mut bytes, n, pattern);
-            n += pattern.len();
-            i += 1;
-        } else {
-            if n >= 2048 {
-                return PathBuf { bytes, len: 2049 };
-            }
-            bytes[n] = b;
-            n += 1;
-            i += 1;
+    let mut n = 0;
+    let mut at = 0;
+    loop {
+        let e = text::find(t, b'*', at);
+        n = path::append_at(out, n, &t[at..e]);
+        if e >= t.len() {
+            return n;
         }
+        n = path::append_at(out, n, pattern);
+        at = e + 1;
     }
-    PathBuf { bytes, len: n }
 }
 
 // How the resolution of a target ended. With the path that was found, or the target that a failure speaks of.
@@ -288,20 +278,19 @@ fn without_path(c: Context, outcome: Outcome) -> Answer
     }
 }
 
-fn with_path(c: Context, outcome: Outcome, t: &[u8], path: &mut [u8]) -> Answer
-    ensures { λ r. ⌜ (r .context ≡ c) × (r .outcome ≡ outcome) × (length (now (t .entry)) ≤ length (now (path .entry)) → take (r .len) (now (path .exit)) ≡ now (t .entry)) ⌝ }
+fn with_path(c: Context, outcome: Outcome, t: &[u8], path: &mut [u8; 2048]) -> Answer
+    ensures { λ r. ⌜ (r .context ≡ c) × (r .outcome ≡ outcome) × (pathAt (now (path .exit)) (r .len) ≡ limited (now (t .entry))) ⌝ }
 {
-    text::copy_at(path, 0, t);
+    let len = path::append_at(path, 0, t);
     Answer {
         context: c,
-        len: t.len(),
+        len,
         outcome,
     }
 }
 
 // A target, with the match put in, below the package's directory.
-fn target_path(url: &[u8], t: &[u8], c: Context, path: &mut [u8]) -> Answer
-    requires { ⌜ 2048 ≤ length (now path) ⌝ }
+fn target_path(url: &[u8], t: &[u8], c: Context, path: &mut [u8; 2048]) -> Answer
     ensures { λ r. ⌜ ((m : List ℕ) (q : Request) → q .packageURL ≡ now (url .entry) → answerOf m q (now (path .exit)) r ≡ resolved m c (targetPath q (target (now (t .entry))))) ⌝ }
 {
     if t.len() > 2048 {
@@ -310,32 +299,33 @@ fn target_path(url: &[u8], t: &[u8], c: Context, path: &mut [u8]) -> Answer
     if path::is_invalid_exports_target(t) {
         return with_path(c, Outcome::InvalidTarget, t, path);
     }
-    let p = path::normalize_with(url, t);
-    let n = p.len;
-    if n > 2048 {
+    let len = path::normalize_with(url, t, path);
+    if len > 2048 {
         return without_path(c, Outcome::OverLong);
     }
-    with_path(c, Outcome::Found, path::first(&p.bytes, n), path)
+    Answer {
+        context: c,
+        len,
+        outcome: Outcome::Found,
+    }
 }
 
-fn starred_target(url: &[u8], t: &[u8], pattern: &[u8], c: Context, path: &mut [u8]) -> Answer
-    requires { ⌜ 2048 ≤ length (now path) ⌝ }
+fn starred_target(url: &[u8], t: &[u8], pattern: &[u8], c: Context, path: &mut [u8; 2048]) -> Answer
     ensures { λ r. ⌜ ((m : List ℕ) (q : Request) → q .packageURL ≡ now (url .entry) → answerOf m q (now (path .exit)) r ≡ resolved m c (targetPath q (target (replace star (now (pattern .entry)) (now (t .entry)))))) ⌝ }
 {
-    let p = substitute(t, pattern);
-    let n = p.len;
+    let mut p = PathBuf::new();
+    let n = substitute(t, pattern, &mut p.bytes);
     if n > 2048 {
         return without_path(c, Outcome::OverLong);
     }
     target_path(url, path::first(&p.bytes, n), c, path)
 }
 
-fn folder_target(url: &[u8], t: &[u8], pattern: &[u8], c: Context, path: &mut [u8]) -> Answer
-    requires { ⌜ 2048 ≤ length (now path) ⌝ }
+fn folder_target(url: &[u8], t: &[u8], pattern: &[u8], c: Context, path: &mut [u8; 2048]) -> Answer
     ensures { λ r. ⌜ ((m : List ℕ) (q : Request) → q .packageURL ≡ now (url .entry) → answerOf m q (now (path .exit)) r ≡ resolved m c (targetPath q (target (now (t .entry) ++ now (pattern .entry))))) ⌝ }
 {
-    let p = PathBuf::from(t).append(pattern);
-    let n = p.len;
+    let mut p = PathBuf::new();
+    let n = path::add_extension(t, pattern, &mut p.bytes);
     if n > 2048 {
         return without_path(c, Outcome::OverLong);
     }
@@ -349,9 +339,8 @@ fn normalized_target(
     pattern: &[u8],
     t: &[u8],
     c: Context,
-    path: &mut [u8],
+    path: &mut [u8; 2048],
 ) -> Answer
-    requires { ⌜ 2048 ≤ length (now path) ⌝ }
     ensures { λ r. ⌜ ((m : List ℕ) (q : Request) → Asked q (now (url .entry)) form (now (pattern .entry)) → answerOf m q (now (path .exit)) r ≡ resolved m c (targetPath q (normalizeStringTarget (q .key) (now (t .entry)) (q .matched)))) ⌝ }
 {
     match form {
@@ -369,6 +358,23 @@ fn normalized_target(
     }
 }
 
+// The path of a target, which has at most 2,048 bytes.
+fn parsed_target(
+    url: &[u8],
+    form: Form,
+    pattern: &[u8],
+    t: &[u8],
+    c: Context,
+    path: &mut [u8; 2048],
+) -> Answer
+    ensures { λ r. ⌜ ((m : List ℕ) (q : Request) → Asked q (now (url .entry)) form (now (pattern .entry)) → length (now (t .entry)) ≤ 2048 → answerOf m q (now (path .exit)) r ≡ resolved m c (pathTarget q (now (t .entry)))) ⌝ }
+{
+    if text::starts_with(t, b"./") {
+        return normalized_target(url, form, pattern, t, c, path);
+    }
+    with_path(c, Outcome::InvalidTarget, t, path)
+}
+
 // The text of the string at a place as a target, which has at most 1,024 bytes.
 fn text_target(
     url: &[u8],
@@ -377,9 +383,8 @@ fn text_target(
     s: &[u8],
     at: usize,
     c: Context,
-    path: &mut [u8],
+    path: &mut [u8; 2048],
 ) -> Answer
-    requires { ⌜ 2048 ≤ length (now path) ⌝ }
     ensures { λ r. ⌜ ((m : List ℕ) (q : Request) → Asked q (now (url .entry)) form (now (pattern .entry)) → length (now (s .entry)) ≤ 1024 → stringAt m at ≡ now (s .entry) → answerOf m q (now (path .exit)) r ≡ stringTarget q (parseSpecifier (now (s .entry))) (now (s .entry)) (contextOf m c)) ⌝ }
 {
     let parsed = Specifier::parse(s);
@@ -402,11 +407,13 @@ fn text_target(
             len: fragment.len(),
         },
     );
-    let t = path::first(&parsed.path.bytes, parsed.path.len);
-    if text::starts_with(t, b"./") {
-        return normalized_target(url, form, pattern, t, context, path);
+    let t = path::first(s, start);
+    if parsed.escaped {
+        let mut p = PathBuf::new();
+        let n = specifier::unescaped(t, &mut p.bytes);
+        return parsed_target(url, form, pattern, path::first(&p.bytes, n), context, path);
     }
-    with_path(context, Outcome::InvalidTarget, t, path)
+    parsed_target(url, form, pattern, t, context, path)
 }
 
 // The kinds of values.
@@ -492,9 +499,9 @@ fn string_target(
     pattern: &[u8],
     c: Context,
     work: &mut [u8],
-    path: &mut [u8],
+    path: &mut [u8; 2048],
 ) -> Answer
-    requires { ⌜ (1024 ≤ length (now work)) × (2048 ≤ length (now path)) ⌝ }
+    requires { ⌜ 1024 ≤ length (now work) ⌝ }
     ensures { λ r. ⌜ ((q : Request) (d : ℕ) (s : List ℕ) → Asked q (now (url .entry)) form (now (pattern .entry)) → Stands (now (m .entry)) d at (str s) → answerOf (now (m .entry)) q (now (path .exit)) r ≡ stringTarget q (parseSpecifier s) s (contextOf (now (m .entry)) c)) ⌝ }
 {
     let t = package_json::read_text(m, at, work);
@@ -595,9 +602,9 @@ fn package_target_resolve(
     pattern: &[u8],
     c: Context,
     work: &mut [u8],
-    path: &mut [u8],
+    path: &mut [u8; 2048],
 ) -> Answer
-    requires { ⌜ (1024 ≤ length (now work)) × (2048 ≤ length (now path)) ⌝ }
+    requires { ⌜ 1024 ≤ length (now work) ⌝ }
     ensures { λ r. ⌜ Resolves (now (m .entry)) at depth (now (settings .entry)) (now (url .entry)) form (now (pattern .entry)) c (now (path .exit)) r ⌝ }
 {
     let kind = kind_at(m, at);
@@ -900,9 +907,9 @@ fn pattern_resolve(
     match_key: &[u8],
     c: Context,
     work: &mut [u8],
-    path: &mut [u8],
+    path: &mut [u8; 2048],
 ) -> Resolved
-    requires { ⌜ (1024 ≤ length (now work)) × (2048 ≤ length (now path)) ⌝ }
+    requires { ⌜ 1024 ≤ length (now work) ⌝ }
     ensures { λ r. ⌜ ((ms : Members) → Stands (now (m .entry)) 15 at (obj ms) → resolvedOf (now (m .entry)) (now (url .entry)) (now («match_key» .entry)) (now (path .exit)) r ≡ bestResolve (now (url .entry)) (textsOf (now (settings .entry)) 0) (now («match_key» .entry)) (bestOf (now («match_key» .entry)) none (entries ms)) (contextOf (now (m .entry)) c)) ⌝ }
 {
     let best = best_key(m, at, match_key, work);
@@ -943,9 +950,9 @@ fn package_imports_exports_resolve(
     match_key: &[u8],
     c: Context,
     work: &mut [u8],
-    path: &mut [u8],
+    path: &mut [u8; 2048],
 ) -> Resolved
-    requires { ⌜ (1024 ≤ length (now work)) × (2048 ≤ length (now path)) ⌝ }
+    requires { ⌜ 1024 ≤ length (now work) ⌝ }
     ensures { λ r. ⌜ ((ms : Members) → Stands (now (m .entry)) 15 at (obj ms) → resolvedOf (now (m .entry)) (now (url .entry)) (now («match_key» .entry)) (now (path .exit)) r ≡ PACKAGE-IMPORTS-EXPORTS-RESOLVE (now (url .entry)) (textsOf (now (settings .entry)) 0) (now («match_key» .entry)) (entries ms) (contextOf (now (m .entry)) c)) ⌝ }
 {
     if text::ends_with(match_key, b"/") {
@@ -985,9 +992,9 @@ fn keys_resolve(
     subpath: &[u8],
     c: Context,
     work: &mut [u8],
-    path: &mut [u8],
+    path: &mut [u8; 2048],
 ) -> Resolved
-    requires { ⌜ (1024 ≤ length (now work)) × (2048 ≤ length (now path)) ⌝ }
+    requires { ⌜ 1024 ≤ length (now work) ⌝ }
     ensures { λ r. ⌜ ((ms : Members) → Stands (now (m .entry)) 15 at (obj ms) → resolvedOf (now (m .entry)) (now (url .entry)) (now (subpath .entry)) (now (path .exit)) r ≡ keysOrNot (now (url .entry)) (textsOf (now (settings .entry)) 0) (now (subpath .entry)) (obj ms) (contextOf (now (m .entry)) c)) ⌝ }
 {
     let r = package_imports_exports_resolve(m, at, settings, url, subpath, c, work, path);
@@ -1009,9 +1016,9 @@ fn main_resolve(
     settings: &[u8],
     url: &[u8],
     work: &mut [u8],
-    path: &mut [u8],
+    path: &mut [u8; 2048],
 ) -> Answer
-    requires { ⌜ (1024 ≤ length (now work)) × (2048 ≤ length (now path)) ⌝ }
+    requires { ⌜ 1024 ≤ length (now work) ⌝ }
     ensures { λ r. ⌜ ((ms : Members) → Stands (now (m .entry)) 15 at (obj ms) → subpaths ≡ anyKey isSubpathKey (entries ms) → answerOf (now (m .entry)) (dotRequest (now (url .entry)) (textsOf (now (settings .entry)) 0)) (now (path .exit)) r ≡ mainResolve (now (url .entry)) (textsOf (now (settings .entry)) 0) (mainExport (obj ms)) fresh) ⌝ }
 {
     let dot = get(m, at, b".");
@@ -1064,9 +1071,9 @@ fn object_resolve(
     url: &[u8],
     subpath: &[u8],
     work: &mut [u8],
-    path: &mut [u8],
+    path: &mut [u8; 2048],
 ) -> Resolved
-    requires { ⌜ (1024 ≤ length (now work)) × (2048 ≤ length (now path)) ⌝ }
+    requires { ⌜ 1024 ≤ length (now work) ⌝ }
     ensures { λ r. ⌜ ((ms : Members) → Stands (now (m .entry)) 15 at (obj ms) → resolvedOf (now (m .entry)) (now (url .entry)) (now (subpath .entry)) (now (path .exit)) r ≡ PACKAGE-EXPORTS-RESOLVE (now (url .entry)) (textsOf (now (settings .entry)) 0) (now (subpath .entry)) (obj ms) fresh) ⌝ }
 {
     let keys = keys_of(m, at, work);
@@ -1100,9 +1107,9 @@ fn whole_resolve(
     url: &[u8],
     subpath: &[u8],
     work: &mut [u8],
-    path: &mut [u8],
+    path: &mut [u8; 2048],
 ) -> Resolved
-    requires { ⌜ (1024 ≤ length (now work)) × (2048 ≤ length (now path)) ⌝ }
+    requires { ⌜ 1024 ≤ length (now work) ⌝ }
     ensures { λ r. ⌜ ((j : Json) → IsWhole j → Stands (now (m .entry)) 15 at j → resolvedOf (now (m .entry)) (now (url .entry)) (now (subpath .entry)) (now (path .exit)) r ≡ PACKAGE-EXPORTS-RESOLVE (now (url .entry)) (textsOf (now (settings .entry)) 0) (now (subpath .entry)) j fresh) ⌝ }
 {
     if !text::equal(subpath, b".") {
@@ -1134,8 +1141,8 @@ fn whole_resolve(
 }
 
 // The exports field whose value stands at a place of the manifest m, for the package directory `url` and a subpath. The answer's path stands at the
-// start of the path buffer; both lent buffers end with any other bytes and their old lengths. Where no value stands there, work has fewer than 1,024
-// bytes or path fewer than 2,048, the answer is free.
+// start of the path buffer; both lent buffers end with any other bytes, and work with its old length. Where no value stands there, or work has fewer
+// than 1,024 bytes, the answer is free.
 pub fn package_exports_resolve(
     m: &[u8],
     at: usize,
@@ -1143,16 +1150,12 @@ pub fn package_exports_resolve(
     url: &[u8],
     subpath: &[u8],
     work: &mut [u8],
-    path: &mut [u8],
+    path: &mut [u8; 2048],
 ) -> Resolved
-    ensures { λ r. ⌜ ((j : Json) → 1024 ≤ length (now (work .entry)) → 2048 ≤ length (now (path .entry)) → values.Stands 15 (drop at (now (m .entry))) j → resolvedOf (now (m .entry)) (now (url .entry)) (now (subpath .entry)) (now (path .exit)) r ≡ PACKAGE-EXPORTS-RESOLVE (now (url .entry)) (settingsOf (now (settings .entry)) .conditions) (now (subpath .entry)) j fresh) ⌝ }
+    ensures { λ r. ⌜ ((j : Json) → 1024 ≤ length (now (work .entry)) → values.Stands 15 (drop at (now (m .entry))) j → resolvedOf (now (m .entry)) (now (url .entry)) (now (subpath .entry)) (now (path .exit)) r ≡ PACKAGE-EXPORTS-RESOLVE (now (url .entry)) (settingsOf (now (settings .entry)) .conditions) (now (subpath .entry)) j fresh) ⌝ }
     ensures { λ r. ⌜ length (now (work .exit)) ≡ length (now (work .entry)) ⌝ }
-    ensures { λ r. ⌜ length (now (path .exit)) ≡ length (now (path .entry)) ⌝ }
 {
     if work.len() < 1024 {
-        return unresolved(Context::new(), Outcome::NotExported);
-    }
-    if path.len() < 2048 {
         return unresolved(Context::new(), Outcome::NotExported);
     }
     let kind = kind_at(m, at);

@@ -1,7 +1,7 @@
 -- `package_target_resolve` calls itself with the depth one less. Each loop's invariant: what is left of the array or the object, from the
 -- context so far, gives what the whole gives.
 use mathlib.Core.Path.{_≡_, refl, sym, _∙_}
-use Prim.Native.Nat.{_-_, _≤_}
+use Prim.Native.Nat.{_-_}
 use native.Mathlib.Omega.{arith}
 use borrow.Author.Tests.{not-true, not-false}
 use borrow.Author.Needs.{needs}
@@ -55,7 +55,7 @@ package-target-resolve-below t =
 
 abbrev package-target-resolve-Inv-loop : package-target-resolve-lts.InvT-loop
 package-target-resolve-Inv-loop m at depth settings url form pattern work₀ path₀ cursor₀ some context₀ left₀ work path cursor context left =
-    (length work ≡ length work₀) × (length path ≡ length path₀) × ((q : Request) → Requested q settings url form pattern → (j : Json) → Stands m depth at j → ArrayLeft m (depth - 1) q left cursor (contextOf m context) (PACKAGE-TARGET-RESOLVE q j (contextOf m context₀)))
+    (length work ≡ length work₀) × ((q : Request) → Requested q settings url form pattern → (j : Json) → Stands m depth at j → ArrayLeft m (depth - 1) q left cursor (contextOf m context) (PACKAGE-TARGET-RESOLVE q j (contextOf m context₀)))
 
 abbrev package-target-resolve-μ-loop : package-target-resolve-lts.MeasureT-loop
 package-target-resolve-μ-loop m at depth settings url form pattern work₀ path₀ cursor₀ some context₀ left₀ work path cursor context left =
@@ -63,7 +63,7 @@ package-target-resolve-μ-loop m at depth settings url form pattern work₀ path
 
 abbrev package-target-resolve-Inv-loop2 : package-target-resolve-lts.InvT-loop2
 package-target-resolve-Inv-loop2 m at depth settings url form pattern work₀ path₀ cursor₀ context₀ left₀ work path cursor context left =
-    (length work ≡ length work₀) × (length path ≡ length path₀) × ((q : Request) → Requested q settings url form pattern → (j : Json) → Stands m depth at j → ObjectLeft m (depth - 1) q left cursor (contextOf m context) (PACKAGE-TARGET-RESOLVE q j (contextOf m context₀)))
+    (length work ≡ length work₀) × ((q : Request) → Requested q settings url form pattern → (j : Json) → Stands m depth at j → ObjectLeft m (depth - 1) q left cursor (contextOf m context) (PACKAGE-TARGET-RESOLVE q j (contextOf m context₀)))
 
 abbrev package-target-resolve-μ-loop2 : package-target-resolve-lts.MeasureT-loop2
 package-target-resolve-μ-loop2 m at depth settings url form pattern work₀ path₀ cursor₀ context₀ left₀ work path cursor context left =
@@ -106,65 +106,58 @@ pub +package-target-resolve-spec : {M : Type 1} → statement M
     (λ c. search needs)
     (λ c κs. search needs)
     (λ c. search needs)
-    (λ c κs. c .before .before .before .before .before .before .before .before .before .before .before .pre .1)
+    (λ c κs. c .before .before .before .before .before .before .before .before .before .before .pre .1)
     (λ c. search needs)
     (λ c κs. search needs)
     (λ c. record { is = λ q a j h. absurd (array-shallow h (sym (c .before .before .enum-told3 .given .1) ∙ c .before .before .before .before .kind-at .ensures _ j h) (c .before .if1 .taken)) })
     (λ c κs. search needs)
     (λ c κs. search needs)
     (λ c κs. search needs)
-    (λ c. record { is = λ q a j h. outcome-is _ q _ (c .without-path3 .result) (c .before .before .before .before .before .before .before .before .before .before .before .before .before .before .args .c) NotExportedMatch (c .without-path3 .ensures) ∙ array-nil (c .before .before .before .before .before .before .before .before .before .before .before .before .before .before .args .m .now) (c .before .before .before .before .before .before .before .before .before .before .before .before .before .before .args .depth) (c .before .before .before .before .before .before .before .before .before .before .before .before .before .before .args .at) q j (contextOf (c .before .before .before .before .before .before .before .before .before .before .before .before .before .before .args .m .now) (c .before .before .before .before .before .before .before .before .before .before .before .before .before .before .args .c)) h (c .before .before .before .before .if1 .left) (c .before .before .before .elements-of .result) (sym (c .before .before .before .before .before .enum-told3 .given .1) ∙ c .before .before .before .before .before .before .before .kind-at .ensures _ j h) (c .before .before .before .elements-of .ensures) (sym (c .before .before .is-some .ensures) ∙ not-true _ (c .before .if2 .taken)) })
-    (λ c. (refl, refl, λ q a j h. array-start (c .before .before .before .before .before .before .before .before .before .before .before .before .before .args .m .now) (c .before .before .before .before .before .before .before .before .before .before .before .before .before .args .depth) (c .before .before .before .before .before .before .before .before .before .before .before .before .before .args .at) q j (contextOf (c .before .before .before .before .before .before .before .before .before .before .before .before .before .args .m .now) (c .before .before .before .before .before .before .before .before .before .before .before .before .before .args .c)) h (c .before .before .before .if1 .left) (c .before .before .elements-of .result) (sym (c .before .before .before .before .enum-told3 .given .1) ∙ c .before .before .before .before .before .before .kind-at .ensures _ j h) (c .before .before .elements-of .ensures) (sym (c .before .is-some .ensures) ∙ not-false _ (c .if2 .left))))
+    (λ c. record { is = λ q a j h. outcome-is _ q _ (c .without-path3 .result) (c .before .before .before .before .before .before .before .before .before .before .before .before .before .args .c) NotExportedMatch (c .without-path3 .ensures) ∙ array-nil (c .before .before .before .before .before .before .before .before .before .before .before .before .before .args .m .now) (c .before .before .before .before .before .before .before .before .before .before .before .before .before .args .depth) (c .before .before .before .before .before .before .before .before .before .before .before .before .before .args .at) q j (contextOf (c .before .before .before .before .before .before .before .before .before .before .before .before .before .args .m .now) (c .before .before .before .before .before .before .before .before .before .before .before .before .before .args .c)) h (c .before .before .before .before .if1 .left) (c .before .before .before .elements-of .result) (sym (c .before .before .before .before .before .enum-told3 .given .1) ∙ c .before .before .before .before .before .before .before .kind-at .ensures _ j h) (c .before .before .before .elements-of .ensures) (sym (c .before .before .is-some .ensures) ∙ not-true _ (c .before .if2 .taken)) })
+    (λ c. (refl, λ q a j h. array-start (c .before .before .before .before .before .before .before .before .before .before .before .before .args .m .now) (c .before .before .before .before .before .before .before .before .before .before .before .before .args .depth) (c .before .before .before .before .before .before .before .before .before .before .before .before .args .at) q j (contextOf (c .before .before .before .before .before .before .before .before .before .before .before .before .args .m .now) (c .before .before .before .before .before .before .before .before .before .before .before .before .args .c)) h (c .before .before .before .if1 .left) (c .before .before .elements-of .result) (sym (c .before .before .before .before .enum-told3 .given .1) ∙ c .before .before .before .before .before .before .kind-at .ensures _ j h) (c .before .before .elements-of .ensures) (sym (c .before .is-some .ensures) ∙ not-false _ (c .if2 .left))))
     (λ c. search needs)
     (λ c κs. search needs)
     (λ c. c .before .before .before .before .loop .inv .0)
-    (λ c. c .before .before .before .before .loop .inv .1)
-    (λ c. record { is = λ q a j h. outcome-is _ q _ (c .without-path4 .result) (c .before .before .before .before .loop .context) Nothing (c .without-path4 .ensures) ∙ sym (array-done (c .before .before .before .before .loop .inv .2 q a j h) (c .before .enum-told4 .given .1)) })
+    (λ c. record { is = λ q a j h. outcome-is _ q _ (c .without-path4 .result) (c .before .before .before .before .loop .context) Nothing (c .without-path4 .ensures) ∙ sym (array-done (c .before .before .before .before .loop .inv .1 q a j h) (c .before .enum-told4 .given .1)) })
     (λ c. search needs)
     (λ c κs. search needs)
     (λ c. search needs)
-    (λ c κs. (search needs, (omega (arith, c .before .before .before .before .before .before .before .loop .inv .0, c .before .before .before .before .before .before .before .before .before .before .before .before .before .before .before .before .before .before .before .before .before .pre .1 .0), omega (arith, c .before .before .before .before .before .before .before .loop .inv .1, c .before .before .before .before .before .before .before .before .before .before .before .before .before .before .before .before .before .before .before .before .before .pre .1 .1))))
+    (λ c κs. (search needs, omega (arith, c .before .before .before .before .before .before .before .loop .inv .0, c .before .before .before .before .before .before .before .before .before .before .before .before .before .before .before .before .before .before .before .before .pre .1)))
     (λ c κs. search needs)
-    (λ c. c .before .before .before .before .before .before .package-target-resolve .kept .1 .1 .1 .1 .1 .1 .1 .1 .0 ∙ c .before .before .before .before .before .before .before .before .before .before .before .before .before .before .loop .inv .0)
-    (λ c. c .before .before .before .before .before .before .package-target-resolve .kept .1 .1 .1 .1 .1 .1 .1 .1 .1 .0 ∙ c .before .before .before .before .before .before .before .before .before .before .before .before .before .before .loop .inv .1)
-    (λ c. record { is = λ q a j h. sym (array-stop (c .before .before .before .before .before .before .before .before .before .before .before .before .before .before .loop .inv .2 q a j h) (c .before .before .before .before .before .before .before .before .before .before .before .cursor .given .1) (c .before .before .before .before .before .before .before .before .before .next-element .result) (c .before .before .before .before .before .before .before .before .before .next-element .ensures ((c .before .before .before .before .before .before .before .before .before .before .before .before .before .before .before .before .before .before .before .before .before .before .before .before .before .before .before .before .args .depth) - 1)) _ (c .before .before .before .before .before .before .package-target-resolve .result) (λ j s. c .before .before .before .before .before .before .package-target-resolve .ensures .is q a j s) (sym (c .before .is-passed .ensures) ∙ not-true _ (c .if3 .taken))) })
+    (λ c. c .before .before .before .before .package-target-resolve .kept .1 .1 .1 .1 .1 .1 .1 .1 .0 ∙ c .before .before .before .before .before .before .before .before .before .before .before .before .loop .inv .0)
+    (λ c. record { is = λ q a j h. sym (array-stop (c .before .before .before .before .before .before .before .before .before .before .before .before .loop .inv .1 q a j h) (c .before .before .before .before .before .before .before .before .before .cursor .given .1) (c .before .before .before .before .before .before .before .next-element .result) (c .before .before .before .before .before .before .before .next-element .ensures ((c .before .before .before .before .before .before .before .before .before .before .before .before .before .before .before .before .before .before .before .before .before .before .before .before .before .args .depth) - 1)) _ (c .before .before .before .before .package-target-resolve .result) (λ j s. c .before .before .before .before .package-target-resolve .ensures .is q a j s) (sym (c .before .is-passed .ensures) ∙ not-true _ (c .if3 .taken))) })
     (λ c. search needs)
     (λ c. search needs)
-    (λ c. (c .before .before .before .before .before .before .before .package-target-resolve .kept .1 .1 .1 .1 .1 .1 .1 .1 .0 ∙ c .before .before .before .before .before .before .before .before .before .before .before .before .before .before .before .loop .inv .0, c .before .before .before .before .before .before .before .package-target-resolve .kept .1 .1 .1 .1 .1 .1 .1 .1 .1 .0 ∙ c .before .before .before .before .before .before .before .before .before .before .before .before .before .before .before .loop .inv .1, λ q a j h. array-on (c .before .before .before .before .before .before .before .before .before .before .before .before .before .before .before .loop .inv .2 q a j h) (c .before .before .before .before .before .before .before .before .before .before .before .before .cursor .given .1) (c .before .before .before .before .before .before .before .before .before .before .next-element .result) (c .before .before .before .before .before .before .before .before .before .before .next-element .ensures ((c .before .before .before .before .before .before .before .before .before .before .before .before .before .before .before .before .before .before .before .before .before .before .before .before .before .before .before .before .before .args .depth) - 1)) _ (c .before .before .before .before .before .before .before .package-target-resolve .result) (λ j s. c .before .before .before .before .before .before .before .package-target-resolve .ensures .is q a j s) (sym (c .before .before .is-passed .ensures) ∙ not-false _ (c .before .if3 .left))))
+    (λ c. (c .before .before .before .before .before .package-target-resolve .kept .1 .1 .1 .1 .1 .1 .1 .1 .0 ∙ c .before .before .before .before .before .before .before .before .before .before .before .before .before .loop .inv .0, λ q a j h. array-on (c .before .before .before .before .before .before .before .before .before .before .before .before .before .loop .inv .1 q a j h) (c .before .before .before .before .before .before .before .before .before .before .cursor .given .1) (c .before .before .before .before .before .before .before .before .next-element .result) (c .before .before .before .before .before .before .before .before .next-element .ensures ((c .before .before .before .before .before .before .before .before .before .before .before .before .before .before .before .before .before .before .before .before .before .before .before .before .before .before .args .depth) - 1)) _ (c .before .before .before .before .before .package-target-resolve .result) (λ j s. c .before .before .before .before .before .package-target-resolve .ensures .is q a j s) (sym (c .before .before .is-passed .ensures) ∙ not-false _ (c .before .if3 .left))))
     (λ c κs. search needs)
     (λ c. search needs)
     (λ c κs. search needs)
     (λ c. record { is = λ q a j h. absurd (object-shallow h (sym (c .before .before .enum-told5 .given .1) ∙ c .before .before .before .before .kind-at .ensures _ j h) (c .before .if4 .taken)) })
     (λ c κs. search needs)
-    (λ c. (refl, refl, λ q a j h. object-start (c .before .before .before .before .before .before .before .before .before .before .before .args .m .now) (c .before .before .before .before .before .before .before .before .before .before .before .args .depth) (c .before .before .before .before .before .before .before .before .before .before .before .args .at) q j (contextOf (c .before .before .before .before .before .before .before .before .before .before .before .args .m .now) (c .before .before .before .before .before .before .before .before .before .before .before .args .c)) h (c .before .if4 .left) (c .members-of .result) (sym (c .before .before .enum-told5 .given .1) ∙ c .before .before .before .before .kind-at .ensures _ j h) (c .members-of .ensures)))
+    (λ c. (refl, λ q a j h. object-start (c .before .before .before .before .before .before .before .before .before .before .args .m .now) (c .before .before .before .before .before .before .before .before .before .before .args .depth) (c .before .before .before .before .before .before .before .before .before .before .args .at) q j (contextOf (c .before .before .before .before .before .before .before .before .before .before .args .m .now) (c .before .before .before .before .before .before .before .before .before .before .args .c)) h (c .before .if4 .left) (c .members-of .result) (sym (c .before .before .enum-told5 .given .1) ∙ c .before .before .before .before .kind-at .ensures _ j h) (c .members-of .ensures)))
     (λ c. search needs)
     (λ c κs. search needs)
     (λ c. c .before .before .before .before .loop2 .inv .0)
-    (λ c. c .before .before .before .before .loop2 .inv .1)
-    (λ c. record { is = λ q a j h. outcome-is _ q _ (c .without-path7 .result) (c .before .before .before .before .loop2 .context) Nothing (c .without-path7 .ensures) ∙ sym (object-done (c .before .before .before .before .loop2 .inv .2 q a j h) (c .before .enum-told6 .given .1)) })
+    (λ c. record { is = λ q a j h. outcome-is _ q _ (c .without-path7 .result) (c .before .before .before .before .loop2 .context) Nothing (c .without-path7 .ensures) ∙ sym (object-done (c .before .before .before .before .loop2 .inv .1 q a j h) (c .before .enum-told6 .given .1)) })
     (λ c. search needs)
     (λ c κs. search needs)
     (λ c κs. search needs)
     (λ c. search needs)
-    (λ c κs. (search needs, (omega (arith, c .before .before .before .before .before .before .before .before .before .loop2 .inv .0, c .before .before .before .before .before .before .before .before .before .before .before .before .before .before .before .before .before .before .before .before .before .pre .1 .0), omega (arith, c .before .before .before .before .before .before .before .before .before .loop2 .inv .1, c .before .before .before .before .before .before .before .before .before .before .before .before .before .before .before .before .before .before .before .before .before .pre .1 .1))))
+    (λ c κs. (search needs, omega (arith, c .before .before .before .before .before .before .before .before .before .loop2 .inv .0, c .before .before .before .before .before .before .before .before .before .before .before .before .before .before .before .before .before .before .before .before .pre .1)))
     (λ c κs. search needs)
-    (λ c. c .before .before .before .before .before .before .package-target-resolve2 .kept .1 .1 .1 .1 .1 .1 .1 .1 .0 ∙ c .before .before .before .before .before .before .before .before .before .before .before .before .before .before .before .before .loop2 .inv .0)
-    (λ c. c .before .before .before .before .before .before .package-target-resolve2 .kept .1 .1 .1 .1 .1 .1 .1 .1 .1 .0 ∙ c .before .before .before .before .before .before .before .before .before .before .before .before .before .before .before .before .loop2 .inv .1)
-    (λ c. record { is = λ q a j h. sym (object-stop (c .before .before .before .before .before .before .before .before .before .before .before .before .before .before .before .before .loop2 .inv .2 q a j h) (c .before .before .before .before .before .before .before .before .before .before .before .before .before .cursor2 .given .1) (c .before .before .before .before .before .before .before .before .before .before .before .entry-at .result .value) (c .before .before .before .before .before .before .before .before .before .before .before .entry-at .result .next) (c .before .before .before .before .before .before .before .before .before .before .before .entry-at .ensures ((c .before .before .before .before .before .before .before .before .before .before .before .before .before .before .before .before .before .before .before .before .before .before .before .before .before .before .before .before .args .depth) - 1)) (c .before .before .before .before .before .before .before .before .before .before .before .before .before .before .before .before .before .before .before .before .before .before .before .before .before .before .before .before .args .settings .now) (a .conditions) (c .before .before .before .before .before .before .before .before .before .before .condition-holds .result) (c .before .before .before .before .before .before .before .before .before .before .condition-holds .ensures) (c .before .before .before .before .before .before .before .before .before .if5 .taken) _ (c .before .before .before .before .before .before .package-target-resolve2 .result) (λ j s. c .before .before .before .before .before .before .package-target-resolve2 .ensures .is q a j s) (sym (c .before .is-nothing .ensures) ∙ not-true _ (c .if6 .taken))) })
+    (λ c. c .before .before .before .before .package-target-resolve2 .kept .1 .1 .1 .1 .1 .1 .1 .1 .0 ∙ c .before .before .before .before .before .before .before .before .before .before .before .before .before .before .loop2 .inv .0)
+    (λ c. record { is = λ q a j h. sym (object-stop (c .before .before .before .before .before .before .before .before .before .before .before .before .before .before .loop2 .inv .1 q a j h) (c .before .before .before .before .before .before .before .before .before .before .before .cursor2 .given .1) (c .before .before .before .before .before .before .before .before .before .entry-at .result .value) (c .before .before .before .before .before .before .before .before .before .entry-at .result .next) (c .before .before .before .before .before .before .before .before .before .entry-at .ensures ((c .before .before .before .before .before .before .before .before .before .before .before .before .before .before .before .before .before .before .before .before .before .before .before .before .before .args .depth) - 1)) (c .before .before .before .before .before .before .before .before .before .before .before .before .before .before .before .before .before .before .before .before .before .before .before .before .before .args .settings .now) (a .conditions) (c .before .before .before .before .before .before .before .before .condition-holds .result) (c .before .before .before .before .before .before .before .before .condition-holds .ensures) (c .before .before .before .before .before .before .before .if5 .taken) _ (c .before .before .before .before .package-target-resolve2 .result) (λ j s. c .before .before .before .before .package-target-resolve2 .ensures .is q a j s) (sym (c .before .is-nothing .ensures) ∙ not-true _ (c .if6 .taken))) })
     (λ c. search needs)
     (λ c. search needs)
-    (λ c. (c .before .before .before .before .before .before .before .package-target-resolve2 .kept .1 .1 .1 .1 .1 .1 .1 .1 .0 ∙ c .before .before .before .before .before .before .before .before .before .before .before .before .before .before .before .before .before .loop2 .inv .0, c .before .before .before .before .before .before .before .package-target-resolve2 .kept .1 .1 .1 .1 .1 .1 .1 .1 .1 .0 ∙ c .before .before .before .before .before .before .before .before .before .before .before .before .before .before .before .before .before .loop2 .inv .1, λ q a j h. object-on (c .before .before .before .before .before .before .before .before .before .before .before .before .before .before .before .before .before .loop2 .inv .2 q a j h) (c .before .before .before .before .before .before .before .before .before .before .before .before .before .before .cursor2 .given .1) (c .before .before .before .before .before .before .before .before .before .before .before .before .entry-at .result .value) (c .before .before .before .before .before .before .before .before .before .before .before .before .entry-at .result .next) (c .before .before .before .before .before .before .before .before .before .before .before .before .entry-at .ensures ((c .before .before .before .before .before .before .before .before .before .before .before .before .before .before .before .before .before .before .before .before .before .before .before .before .before .before .before .before .before .args .depth) - 1)) (c .before .before .before .before .before .before .before .before .before .before .before .before .before .before .before .before .before .before .before .before .before .before .before .before .before .before .before .before .before .args .settings .now) (a .conditions) (c .before .before .before .before .before .before .before .before .before .before .before .condition-holds .result) (c .before .before .before .before .before .before .before .before .before .before .before .condition-holds .ensures) (c .before .before .before .before .before .before .before .before .before .before .if5 .taken) _ (c .before .before .before .before .before .before .before .package-target-resolve2 .result) (λ j s. c .before .before .before .before .before .before .before .package-target-resolve2 .ensures .is q a j s) (sym (c .before .before .is-nothing .ensures) ∙ not-false _ (c .before .if6 .left))))
+    (λ c. (c .before .before .before .before .before .package-target-resolve2 .kept .1 .1 .1 .1 .1 .1 .1 .1 .0 ∙ c .before .before .before .before .before .before .before .before .before .before .before .before .before .before .before .loop2 .inv .0, λ q a j h. object-on (c .before .before .before .before .before .before .before .before .before .before .before .before .before .before .before .loop2 .inv .1 q a j h) (c .before .before .before .before .before .before .before .before .before .before .before .before .cursor2 .given .1) (c .before .before .before .before .before .before .before .before .before .before .entry-at .result .value) (c .before .before .before .before .before .before .before .before .before .before .entry-at .result .next) (c .before .before .before .before .before .before .before .before .before .before .entry-at .ensures ((c .before .before .before .before .before .before .before .before .before .before .before .before .before .before .before .before .before .before .before .before .before .before .before .before .before .before .args .depth) - 1)) (c .before .before .before .before .before .before .before .before .before .before .before .before .before .before .before .before .before .before .before .before .before .before .before .before .before .before .args .settings .now) (a .conditions) (c .before .before .before .before .before .before .before .before .before .condition-holds .result) (c .before .before .before .before .before .before .before .before .before .condition-holds .ensures) (c .before .before .before .before .before .before .before .before .if5 .taken) _ (c .before .before .before .before .before .package-target-resolve2 .result) (λ j s. c .before .before .before .before .before .package-target-resolve2 .ensures .is q a j s) (sym (c .before .before .is-nothing .ensures) ∙ not-false _ (c .before .if6 .left))))
     (λ c. search needs)
     (λ c. search needs)
-    (λ c. (c .before .before .before .before .before .before .before .loop2 .inv .0, c .before .before .before .before .before .before .before .loop2 .inv .1, λ q a j h. object-skip (c .before .before .before .before .before .before .before .loop2 .inv .2 q a j h) (c .before .before .before .before .cursor2 .given .1) (c .before .before .entry-at .result .value) (c .before .before .entry-at .result .next) (c .before .before .entry-at .ensures ((c .before .before .before .before .before .before .before .before .before .before .before .before .before .before .before .before .before .before .before .args .depth) - 1)) (c .before .before .before .before .before .before .before .before .before .before .before .before .before .before .before .before .before .before .before .args .settings .now) (a .conditions) (c .before .condition-holds .result) (c .before .condition-holds .ensures) (c .if5 .left)))
+    (λ c. (c .before .before .before .before .before .before .before .loop2 .inv .0, λ q a j h. object-skip (c .before .before .before .before .before .before .before .loop2 .inv .1 q a j h) (c .before .before .before .before .cursor2 .given .1) (c .before .before .entry-at .result .value) (c .before .before .entry-at .result .next) (c .before .before .entry-at .ensures ((c .before .before .before .before .before .before .before .before .before .before .before .before .before .before .before .before .before .before .args .depth) - 1)) (c .before .before .before .before .before .before .before .before .before .before .before .before .before .before .before .before .before .before .args .settings .now) (a .conditions) (c .before .condition-holds .result) (c .before .condition-holds .ensures) (c .if5 .left)))
     (λ c κs. search needs)
-    (λ c. record { is = λ q a j h. outcome-is _ q _ (c .without-path .result) (c .before .before .before .before .before .before .before .before .before .before .args .c) Nothing (c .without-path .ensures) ∙ sym (resolve-scalar q j (contextOf (c .before .before .before .before .before .before .before .before .before .before .args .m .now) (c .before .before .before .before .before .before .before .before .before .before .args .c)) (sym (c .before .enum-told .given .1) ∙ c .before .before .before .kind-at .ensures _ j h)) })
-    (λ c. c .before .before .before .before .string-target .kept .1 .1 .1 .1 .1 .1 .0)
-    (λ c. c .before .before .before .before .string-target .kept .1 .1 .1 .1 .1 .1 .1 .0)
-    (λ c. record { is = λ q a j h. text-leaf (c .before .before .before .before .before .before .before .before .before .before .before .before .before .before .before .before .args .m .now) (c .before .before .before .before .before .before .before .before .before .before .before .before .before .before .before .before .args .depth) (c .before .before .before .before .before .before .before .before .before .before .before .before .before .before .before .before .args .at) q j (contextOf (c .before .before .before .before .before .before .before .before .before .before .before .before .before .before .before .before .args .m .now) (c .before .before .before .before .before .before .before .before .before .before .before .before .before .before .before .before .args .c)) h _ (sym (c .before .before .before .before .before .before .before .enum-told2 .given .1) ∙ c .before .before .before .before .before .before .before .before .before .kind-at .ensures _ j h) (λ d s g. c .before .before .before .before .string-target .ensures q d s (a .asked) g) })
+    (λ c. record { is = λ q a j h. outcome-is _ q _ (c .without-path .result) (c .before .before .before .before .before .before .before .before .before .args .c) Nothing (c .without-path .ensures) ∙ sym (resolve-scalar q j (contextOf (c .before .before .before .before .before .before .before .before .before .args .m .now) (c .before .before .before .before .before .before .before .before .before .args .c)) (sym (c .before .enum-told .given .1) ∙ c .before .before .before .kind-at .ensures _ j h)) })
+    (λ c. c .before .before .string-target .kept .1 .1 .1 .1 .1 .1 .0)
+    (λ c. record { is = λ q a j h. text-leaf (c .before .before .before .before .before .before .before .before .before .before .before .before .before .args .m .now) (c .before .before .before .before .before .before .before .before .before .before .before .before .before .args .depth) (c .before .before .before .before .before .before .before .before .before .before .before .before .before .args .at) q j (contextOf (c .before .before .before .before .before .before .before .before .before .before .before .before .before .args .m .now) (c .before .before .before .before .before .before .before .before .before .before .before .before .before .args .c)) h _ (sym (c .before .before .before .before .before .enum-told2 .given .1) ∙ c .before .before .before .before .before .before .before .kind-at .ensures _ j h) (λ d s g. c .before .before .string-target .ensures q d s (a .asked) g) })
     (λ c. c .before .before .loop .inv .0)
-    (λ c. c .before .before .loop .inv .1)
-    (λ c. record { is = λ q a j h. outcome-is _ q _ (c .without-path5 .result) (c .before .before .loop .context) Nothing (c .without-path5 .ensures) ∙ sym (array-over (c .before .before .loop .inv .2 q a j h) (c .before .loop-test .left)) })
+    (λ c. record { is = λ q a j h. outcome-is _ q _ (c .without-path5 .result) (c .before .before .loop .context) Nothing (c .without-path5 .ensures) ∙ sym (array-over (c .before .before .loop .inv .1 q a j h) (c .before .loop-test .left)) })
     (λ c. c .before .before .loop2 .inv .0)
-    (λ c. c .before .before .loop2 .inv .1)
-    (λ c. record { is = λ q a j h. outcome-is _ q _ (c .without-path8 .result) (c .before .before .loop2 .context) Nothing (c .without-path8 .ensures) ∙ sym (object-over (c .before .before .loop2 .inv .2 q a j h) (c .before .loop2-test .left)) })
+    (λ c. record { is = λ q a j h. outcome-is _ q _ (c .without-path8 .result) (c .before .before .loop2 .context) Nothing (c .without-path8 .ensures) ∙ sym (object-over (c .before .before .loop2 .inv .1 q a j h) (c .before .loop2-test .left)) })

@@ -1,7 +1,6 @@
 use borrow.Author.Needs.{needs}
-use mathlib.Core.Path.{_≡_, sym, _∙_, ap}
+use mathlib.Core.Path.{_∙_, ap}
 use mathlib.Core.List.{_++_}
-use Rattle.definition.specs.Path.{andPath, addExtension}
 use Rattle.exports.specs.Answers.{resolved}
 use Rattle.exports.specs.declared.Outcome.the-variants.{OverLong}
 use Rattle.exports.proofs.Targets.{outcome-is, built-over, built-text, appended}
@@ -15,8 +14,7 @@ folder-target-spec =
     (λ c κs. search needs)
     (λ c κs. search needs)
     (λ c κs. search needs)
-    (λ c. λ m q u. outcome-is m q _ (c .without-path .result) (c .before .before .before .before .before .before .before .before .args .c) OverLong (c .without-path .ensures) ∙ ap (resolved m (c .before .before .before .before .before .before .before .before .args .c)) (built-over q ((c .before .before .before .before .before .before .before .before .args .t .now) ++ (c .before .before .before .before .before .before .before .before .args .pattern .now)) (c .before .before .append .result) (c .before .before .append .ensures ∙ ap (λ b. andPath b (λ p. addExtension p (c .before .before .before .before .before .before .before .before .args .pattern .now))) (c .before .before .before .from .ensures) ∙ appended (c .before .before .before .before .before .before .before .before .args .t .now) (c .before .before .before .before .before .before .before .before .args .pattern .now)) (c .before .if1 .taken)))
+    (λ c. λ m q u. outcome-is m q _ (c .without-path .result) (c .before .before .before .before .before .before .before .before .args .c) OverLong (c .without-path .ensures) ∙ ap (resolved m (c .before .before .before .before .before .before .before .before .args .c)) (built-over q (c .before .before .before .before .before .before .before .before .args .t .now ++ c .before .before .before .before .before .before .before .before .args .pattern .now) _ (c .before .before .add-extension .result) (c .before .before .add-extension .ensures ∙ appended _ _) (c .before .if1 .taken)))
     (λ c κs. search needs)
-    (λ c κs. c .before .before .before .before .before .before .before .before .before .before .before .before .pre)
-    (λ c. search needs)
-    (λ c. λ m q u. c .before .before .target-path .ensures m q u ∙ ap (resolved m (c .before .before .before .before .before .before .before .before .before .before .before .before .before .before .before .args .c)) (built-text q ((c .before .before .before .before .before .before .before .before .before .before .before .before .before .before .before .args .t .now) ++ (c .before .before .before .before .before .before .before .before .before .before .before .before .before .before .before .args .pattern .now)) (c .before .before .before .before .before .before .before .before .before .append .result) (c .before .before .before .before .before .before .before .before .before .append .ensures ∙ ap (λ b. andPath b (λ p. addExtension p (c .before .before .before .before .before .before .before .before .before .before .before .before .before .before .before .args .pattern .now))) (c .before .before .before .before .before .before .before .before .before .before .from .ensures) ∙ appended (c .before .before .before .before .before .before .before .before .before .before .before .before .before .before .before .args .t .now) (c .before .before .before .before .before .before .before .before .before .before .before .before .before .before .before .args .pattern .now)) (c .before .before .before .before .before .before .before .before .if1 .left) _ (c .before .before .before .before .first .ensures))))
+    (λ c κs. search needs)
+    (λ c. λ m q u. c .target-path .ensures m q u ∙ ap (resolved m (c .before .before .before .before .before .before .before .before .before .before .before .before .before .args .c)) (built-text q (c .before .before .before .before .before .before .before .before .before .before .before .before .before .args .t .now ++ c .before .before .before .before .before .before .before .before .before .before .before .before .before .args .pattern .now) _ (c .before .before .before .before .before .before .before .add-extension .result) (c .before .before .before .before .before .before .before .add-extension .ensures ∙ appended _ _) (c .before .before .before .before .before .before .if1 .left) _ (c .before .before .first .ensures))))

@@ -1,5 +1,5 @@
 use borrow.Author.Needs.{needs}
-use mathlib.Core.Path.{_≡_, sym, _∙_}
+use mathlib.Core.Path.{sym, _∙_}
 use borrow.Author.Tests.{not-true, not-false}
 use Rattle.definition.specs.Settings.{textsOf}
 use Rattle.exports.specs.declared.Outcome.the-variants.{NotExported}
@@ -12,12 +12,10 @@ pub keys-resolve-spec : {M : Type 1} → statement M
 keys-resolve-spec =
     tie.close
     (tie.spec
-    (λ c κs. c .before .before .before .before .before .before .before .before .pre)
+    (λ c κs. c .before .before .before .before .before .before .before .pre)
     (λ c κs. search needs)
     (λ c. search needs)
-    (λ c. search needs)
-    (λ c. λ ms h. keys-stop (c .before .before .before .before .before .before .before .before .before .before .before .before .before .before .before .before .args .url .now) (textsOf (c .before .before .before .before .before .before .before .before .before .before .before .before .before .before .before .before .args .settings .now) 0) (c .before .before .before .before .before .before .before .before .before .before .before .before .before .before .before .before .args .subpath .now) (contextOf (c .before .before .before .before .before .before .before .before .before .before .before .before .before .before .before .before .args .m .now) (c .before .before .before .before .before .before .before .before .before .before .before .before .before .before .before .before .args .c)) ms (c .before .before .before .before .before .before .before .before .before .before .before .before .before .before .before .before .args .m .now) _ (c .before .before .before .before .before .before .before .package-imports-exports-resolve .result) (c .before .before .before .before .before .before .before .package-imports-exports-resolve .ensures ms h) (sym (c .before .is-nothing .ensures) ∙ not-true _ (c .if1 .taken)))
+    (λ c. λ ms h. keys-stop (c .before .before .before .before .before .before .before .before .before .before .before .before .before .args .url .now) (textsOf (c .before .before .before .before .before .before .before .before .before .before .before .before .before .args .settings .now) 0) (c .before .before .before .before .before .before .before .before .before .before .before .before .before .args .subpath .now) (contextOf (c .before .before .before .before .before .before .before .before .before .before .before .before .before .args .m .now) (c .before .before .before .before .before .before .before .before .before .before .before .before .before .args .c)) ms (c .before .before .before .before .before .before .before .before .before .before .before .before .before .args .m .now) _ (c .before .before .before .before .before .package-imports-exports-resolve .result) (c .before .before .before .before .before .package-imports-exports-resolve .ensures ms h) (sym (c .before .is-nothing .ensures) ∙ not-true _ (c .if1 .taken)))
     (λ c κs. search needs)
     (λ c. search needs)
-    (λ c. search needs)
-    (λ c. λ ms h. subpath-is (c .before .before .before .before .before .before .before .before .before .before .before .before .before .before .before .before .before .before .args .m .now) (c .before .before .before .before .before .before .before .before .before .before .before .before .before .before .before .before .before .before .args .url .now) (c .before .before .before .before .before .before .before .before .before .before .before .before .before .before .before .before .before .before .args .subpath .now) _ (c .unresolved .result) (c .before .before .before .before .before .before .before .before .before .package-imports-exports-resolve .result .answer .context) NotExported (c .unresolved .ensures) ∙ keys-on (c .before .before .before .before .before .before .before .before .before .before .before .before .before .before .before .before .before .before .args .url .now) (textsOf (c .before .before .before .before .before .before .before .before .before .before .before .before .before .before .before .before .before .before .args .settings .now) 0) (c .before .before .before .before .before .before .before .before .before .before .before .before .before .before .before .before .before .before .args .subpath .now) (contextOf (c .before .before .before .before .before .before .before .before .before .before .before .before .before .before .before .before .before .before .args .m .now) (c .before .before .before .before .before .before .before .before .before .before .before .before .before .before .before .before .before .before .args .c)) ms (c .before .before .before .before .before .before .before .before .before .before .before .before .before .before .before .before .before .before .args .m .now) _ (c .before .before .before .before .before .before .before .before .before .package-imports-exports-resolve .result) (c .before .before .before .before .before .before .before .before .before .package-imports-exports-resolve .ensures ms h) (sym (c .before .before .before .is-nothing .ensures) ∙ not-false _ (c .before .before .if1 .left))))
+    (λ c. λ ms h. subpath-is (c .before .before .before .before .before .before .before .before .before .before .before .before .before .before .before .args .m .now) (c .before .before .before .before .before .before .before .before .before .before .before .before .before .before .before .args .url .now) (c .before .before .before .before .before .before .before .before .before .before .before .before .before .before .before .args .subpath .now) _ (c .unresolved .result) (c .before .before .before .before .before .before .before .package-imports-exports-resolve .result .answer .context) NotExported (c .unresolved .ensures) ∙ keys-on (c .before .before .before .before .before .before .before .before .before .before .before .before .before .before .before .args .url .now) (textsOf (c .before .before .before .before .before .before .before .before .before .before .before .before .before .before .before .args .settings .now) 0) (c .before .before .before .before .before .before .before .before .before .before .before .before .before .before .before .args .subpath .now) (contextOf (c .before .before .before .before .before .before .before .before .before .before .before .before .before .before .before .args .m .now) (c .before .before .before .before .before .before .before .before .before .before .before .before .before .before .before .args .c)) ms (c .before .before .before .before .before .before .before .before .before .before .before .before .before .before .before .args .m .now) _ (c .before .before .before .before .before .before .before .package-imports-exports-resolve .result) (c .before .before .before .before .before .before .before .package-imports-exports-resolve .ensures ms h) (sym (c .before .before .before .is-nothing .ensures) ∙ not-false _ (c .before .before .if1 .left))))

@@ -1,5 +1,5 @@
 use borrow.Author.Needs.{needs}
-use mathlib.Core.Path.{_≡_, sym, _∙_, ap}
+use mathlib.Core.Path.{sym, _∙_, ap}
 use lib.ListN.{take}
 use Rattle.definition.specs.Exports.{targetPath}
 use Rattle.exports.specs.Answers.{resolved}
@@ -13,22 +13,18 @@ normalized-target-spec =
     tie.close
     (tie.spec
     (λ c. search needs)
-    (λ c κs. c .before .before .before .before .before .before .before .pre)
-    (λ c. search needs)
-    (λ c κs. c .before .before .before .before .before .before .before .pre)
-    (λ c. search needs)
-    (λ c κs. search needs)
-    (λ c κs. c .before .before .before .before .before .before .before .before .before .pre)
-    (λ c. search needs)
-    (λ c. λ m q a. c .before .before .starred-target2 .ensures m q (a .directory) ∙ ap (λ x. resolved m (c .before .before .before .before .before .before .before .before .before .before .before .before .args .c) (targetPath q x)) (folder-star a (c .before .before .before .before .before .before .before .before .before .before .before .before .args .t .now) (c .before .before .before .before .before .before .enum-told3 .given .1) (sym (c .before .before .before .before .before .contains .ensures) ∙ c .before .before .before .before .if1 .taken)))
-    (λ c. search needs)
-    (λ c κs. search needs)
-    (λ c κs. c .before .before .before .before .before .before .before .before .before .before .before .before .pre)
-    (λ c. search needs)
-    (λ c. λ m q a. c .before .before .folder-target .ensures m q (a .directory) ∙ ap (λ x. resolved m (c .before .before .before .before .before .before .before .before .before .before .before .before .before .before .before .args .c) (targetPath q x)) (folder-both a (c .before .before .before .before .before .before .before .before .before .before .before .before .before .before .before .args .t .now) (c .before .before .before .before .before .before .before .before .before .enum-told3 .given .1) (sym (c .before .before .before .before .before .before .before .before .contains .ensures) ∙ c .before .before .before .before .before .before .before .if1 .left) (sym (c .before .before .before .before .before .ends-with .ensures) ∙ c .before .before .before .before .if2 .taken)))
     (λ c κs. search needs)
     (λ c. search needs)
-    (λ c. λ m q a. c .before .before .target-path .ensures m q (a .directory) ∙ ap (λ x. resolved m (c .before .before .before .before .before .before .before .before .before .before .args .c) (targetPath q x)) (plain-target a (c .before .before .before .before .before .before .before .before .before .before .args .t .now) (c .before .before .before .before .enum-told .given .1)))
+    (λ c κs. search needs)
     (λ c. search needs)
-    (λ c. λ m q a. c .before .before .starred-target .ensures m q (a .directory) ∙ ap (λ x. resolved m (c .before .before .before .before .before .before .before .before .before .before .args .c) (targetPath q x)) (starred-target a (c .before .before .before .before .before .before .before .before .before .before .args .t .now) (c .before .before .before .before .enum-told2 .given .1)))
-    (λ c. λ m q a. outcome-is m q _ (c .without-path .result) (c .before .before .before .before .before .before .before .before .before .before .before .before .args .c) ConfigDirectory (c .without-path .ensures) ∙ ap (resolved m (c .before .before .before .before .before .before .before .before .before .before .before .before .args .c)) (directory-is q (take (c .without-path .result .len) (c .before .before .before .before .before .before .before .before .before .before .before .before .args .path .now))) ∙ ap (λ x. resolved m (c .before .before .before .before .before .before .before .before .before .before .before .before .args .c) (targetPath q x)) (folder-error a (c .before .before .before .before .before .before .before .before .before .before .before .before .args .t .now) (c .before .before .before .before .before .before .enum-told3 .given .1) (sym (c .before .before .before .before .before .contains .ensures) ∙ c .before .before .before .before .if1 .left) (sym (c .before .before .ends-with .ensures) ∙ c .before .if2 .left))))
+    (λ c κs. search needs)
+    (λ c κs. search needs)
+    (λ c. λ m q a. c .starred-target2 .ensures m q (a .directory) ∙ ap (λ x. resolved m (c .before .before .before .before .before .before .before .before .before .args .c) (targetPath q x)) (folder-star a (c .before .before .before .before .before .before .before .before .before .args .t .now) (c .before .before .before .before .enum-told3 .given .1) (sym (c .before .before .before .contains .ensures) ∙ c .before .before .if1 .taken)))
+    (λ c. search needs)
+    (λ c κs. search needs)
+    (λ c κs. search needs)
+    (λ c. λ m q a. c .folder-target .ensures m q (a .directory) ∙ ap (λ x. resolved m (c .before .before .before .before .before .before .before .before .before .before .before .before .args .c) (targetPath q x)) (folder-both a (c .before .before .before .before .before .before .before .before .before .before .before .before .args .t .now) (c .before .before .before .before .before .before .before .enum-told3 .given .1) (sym (c .before .before .before .before .before .before .contains .ensures) ∙ c .before .before .before .before .before .if1 .left) (sym (c .before .before .before .ends-with .ensures) ∙ c .before .before .if2 .taken)))
+    (λ c κs. search needs)
+    (λ c. λ m q a. c .target-path .ensures m q (a .directory) ∙ ap (λ x. resolved m (c .before .before .before .before .before .before .before .args .c) (targetPath q x)) (plain-target a (c .before .before .before .before .before .before .before .args .t .now) (c .before .before .enum-told .given .1)))
+    (λ c. λ m q a. c .starred-target .ensures m q (a .directory) ∙ ap (λ x. resolved m (c .before .before .before .before .before .before .before .args .c) (targetPath q x)) (starred-target a (c .before .before .before .before .before .before .before .args .t .now) (c .before .before .enum-told2 .given .1)))
+    (λ c. λ m q a. outcome-is m q _ (c .without-path .result) (c .before .before .before .before .before .before .before .before .before .before .before .args .c) ConfigDirectory (c .without-path .ensures) ∙ ap (resolved m (c .before .before .before .before .before .before .before .before .before .before .before .args .c)) (directory-is q (take (c .without-path .result .len) (c .before .before .before .before .before .before .before .before .before .before .before .args .path .now))) ∙ ap (λ x. resolved m (c .before .before .before .before .before .before .before .before .before .before .before .args .c) (targetPath q x)) (folder-error a (c .before .before .before .before .before .before .before .before .before .before .before .args .t .now) (c .before .before .before .before .before .before .enum-told3 .given .1) (sym (c .before .before .before .before .before .contains .ensures) ∙ c .before .before .before .before .if1 .left) (sym (c .before .before .ends-with .ensures) ∙ c .before .if2 .left))))

@@ -1,7 +1,6 @@
 use native.Mathlib.Omega.{arith}
 use borrow.Author.Needs.{needs}
-use mathlib.Core.Path.{_≡_, refl, sym, _∙_, ap}
-use Prim.Native.Nat.{_≤_}
+use mathlib.Core.Path.{refl, sym, _∙_, ap}
 use Rattle.definition.specs.Settings.{textsOf, settingsOf}
 use Rattle.definition.specs.Exports.{pathNotExported}
 use Rattle.exports.specs.declared.Outcome.the-variants.{NotExported}
@@ -18,27 +17,21 @@ package-exports-resolve-spec =
     (tie.spec
     (λ c κs. search needs)
     (λ c κs. search needs)
-    (λ c. (λ j l p h. absurd (omega (arith, c .before .before .if1 .taken)), (refl, refl)))
-    (λ c κs. search needs)
-    (λ c κs. search needs)
-    (λ c. (λ j l p h. absurd (omega (arith, c .before .before .if2 .taken)), (refl, refl)))
+    (λ c. (λ j l h. absurd (omega (arith, c .before .before .if1 .taken)), refl))
     (λ c κs. search needs)
     (λ c. search needs)
     (λ c κs. search needs)
     (λ c κs. search needs)
     (λ c. search needs)
-    (λ c κs. (omega (arith, c .before .before .before .before .before .before .if1 .left), omega (arith, c .before .before .before .before .before .if2 .left)))
+    (λ c κs. omega (arith, c .before .before .before .before .before .if1 .left))
     (λ c. search needs)
-    (λ c κs. (omega (arith, c .before .before .before .before .before .before .if1 .left), omega (arith, c .before .before .before .before .before .if2 .left)))
+    (λ c κs. omega (arith, c .before .before .before .before .before .if1 .left))
     (λ c. search needs)
-    (λ c κs. (omega (arith, c .before .before .before .before .before .before .if1 .left), omega (arith, c .before .before .before .before .before .if2 .left)))
-    (λ c. (λ j l p h. subpath-is (c .before .before .before .before .before .before .before .before .before .before .before .before .before .args .m .now) (c .before .before .before .before .before .before .before .before .before .before .before .before .before .args .url .now) (c .before .before .before .before .before .before .before .before .before .before .before .before .before .args .subpath .now) _ (c .unresolved3 .result) (c .before .new3 .result) NotExported (c .unresolved3 .ensures) ∙ ap (λ x. record { context = x; outcome = pathNotExported (c .before .before .before .before .before .before .before .before .before .before .before .before .before .args .subpath .now) (c .before .before .before .before .before .before .before .before .before .before .before .before .before .args .url .now) }) (c .before .new3 .ensures _) ∙ exports-scalar (c .before .before .before .before .before .before .before .before .before .before .before .before .before .args .url .now) (textsOf (c .before .before .before .before .before .before .before .before .before .before .before .before .before .args .settings .now) 0) (c .before .before .before .before .before .before .before .before .before .before .before .before .before .args .subpath .now) fresh j (sym (c .before .before .enum-told .given .1) ∙ c .before .before .before .before .kind-at .ensures 15 j (record { here = h })), (refl, refl)))
+    (λ c κs. omega (arith, c .before .before .before .before .before .if1 .left))
+    (λ c. (λ j l h. subpath-is (c .before .before .before .before .before .before .before .before .before .before .before .args .m .now) (c .before .before .before .before .before .before .before .before .before .before .before .args .url .now) (c .before .before .before .before .before .before .before .before .before .before .before .args .subpath .now) _ (c .unresolved2 .result) (c .before .new2 .result) NotExported (c .unresolved2 .ensures) ∙ ap (λ x. record { context = x; outcome = pathNotExported (c .before .before .before .before .before .before .before .before .before .before .before .args .subpath .now) (c .before .before .before .before .before .before .before .before .before .before .before .args .url .now) }) (c .before .new2 .ensures _) ∙ exports-scalar (c .before .before .before .before .before .before .before .before .before .before .before .args .url .now) (textsOf (c .before .before .before .before .before .before .before .before .before .before .before .args .settings .now) 0) (c .before .before .before .before .before .before .before .before .before .before .before .args .subpath .now) fresh j (sym (c .before .before .enum-told .given .1) ∙ c .before .before .before .before .kind-at .ensures 15 j (record { here = h })), refl))
     (λ c. search needs)
+    (λ c. (λ j l h. c .before .before .whole-resolve .ensures j (whole-string j (sym (c .before .before .before .before .before .enum-told2 .given .1) ∙ c .before .before .before .before .before .before .before .kind-at .ensures 15 j (record { here = h }))) (record { here = h }), c .before .before .whole-resolve .kept .1 .1 .1 .1 .1 .0))
     (λ c. search needs)
-    (λ c. (λ j l p h. c .before .before .before .before .whole-resolve .ensures j (whole-string j (sym (c .before .before .before .before .before .before .before .enum-told2 .given .1) ∙ c .before .before .before .before .before .before .before .before .before .kind-at .ensures 15 j (record { here = h }))) (record { here = h }), (c .before .before .before .before .whole-resolve .kept .1 .1 .1 .1 .1 .0, c .before .before .before .before .whole-resolve .kept .1 .1 .1 .1 .1 .1 .0)))
+    (λ c. (λ j l h. c .before .before .whole-resolve2 .ensures j (whole-array j (sym (c .before .before .before .before .before .enum-told3 .given .1) ∙ c .before .before .before .before .before .before .before .kind-at .ensures 15 j (record { here = h }))) (record { here = h }), c .before .before .whole-resolve2 .kept .1 .1 .1 .1 .1 .0))
     (λ c. search needs)
-    (λ c. search needs)
-    (λ c. (λ j l p h. c .before .before .before .before .whole-resolve2 .ensures j (whole-array j (sym (c .before .before .before .before .before .before .before .enum-told3 .given .1) ∙ c .before .before .before .before .before .before .before .before .before .kind-at .ensures 15 j (record { here = h }))) (record { here = h }), (c .before .before .before .before .whole-resolve2 .kept .1 .1 .1 .1 .1 .0, c .before .before .before .before .whole-resolve2 .kept .1 .1 .1 .1 .1 .1 .0)))
-    (λ c. search needs)
-    (λ c. search needs)
-    (λ c. (λ j l p h. let k = is-object j (sym (c .before .before .before .before .before .before .before .enum-told4 .given .1) ∙ c .before .before .before .before .before .before .before .before .before .kind-at .ensures 15 j (record { here = h })) in rw (k .1) (c .before .before .before .before .object-resolve .ensures (k .0) (record { here = rw (k .1) at h })), (c .before .before .before .before .object-resolve .kept .1 .1 .1 .1 .1 .0, c .before .before .before .before .object-resolve .kept .1 .1 .1 .1 .1 .1 .0))))
+    (λ c. (λ j l h. let k = is-object j (sym (c .before .before .before .before .before .enum-told4 .given .1) ∙ c .before .before .before .before .before .before .before .kind-at .ensures 15 j (record { here = h })) in rw (k .1) (c .before .before .object-resolve .ensures (k .0) (record { here = rw (k .1) at h })), c .before .before .object-resolve .kept .1 .1 .1 .1 .1 .0)))

@@ -1,5 +1,5 @@
 use borrow.Author.Needs.{needs}
-use mathlib.Core.Path.{_≡_, sym, _∙_, ap}
+use mathlib.Core.Path.{_∙_, ap}
 use Rattle.definition.specs.Text.{star, replace}
 use Rattle.exports.specs.Answers.{resolved}
 use Rattle.exports.specs.declared.Outcome.the-variants.{OverLong}
@@ -13,8 +13,8 @@ starred-target-spec =
     (tie.spec
     (λ c κs. search needs)
     (λ c κs. search needs)
-    (λ c. λ m q u. outcome-is m q _ (c .without-path .result) (c .before .before .before .before .before .before .before .args .c) OverLong (c .without-path .ensures) ∙ ap (resolved m (c .before .before .before .before .before .before .before .args .c)) (built-over q (replace star (c .before .before .before .before .before .before .before .args .pattern .now) (c .before .before .before .before .before .before .before .args .t .now)) (c .before .before .substitute .result) (c .before .before .substitute .ensures) (c .before .if1 .taken)))
     (λ c κs. search needs)
-    (λ c κs. c .before .before .before .before .before .before .before .before .before .before .before .pre)
-    (λ c. search needs)
-    (λ c. λ m q u. c .before .before .target-path .ensures m q u ∙ ap (resolved m (c .before .before .before .before .before .before .before .before .before .before .before .before .before .before .args .c)) (built-text q (replace star (c .before .before .before .before .before .before .before .before .before .before .before .before .before .before .args .pattern .now) (c .before .before .before .before .before .before .before .before .before .before .before .before .before .before .args .t .now)) (c .before .before .before .before .before .before .before .before .before .substitute .result) (c .before .before .before .before .before .before .before .before .before .substitute .ensures) (c .before .before .before .before .before .before .before .before .if1 .left) _ (c .before .before .before .before .first .ensures))))
+    (λ c. λ m q u. outcome-is m q _ (c .without-path .result) (c .before .before .before .before .before .before .before .before .args .c) OverLong (c .without-path .ensures) ∙ ap (resolved m (c .before .before .before .before .before .before .before .before .args .c)) (built-over q (replace star (c .before .before .before .before .before .before .before .before .args .pattern .now) (c .before .before .before .before .before .before .before .before .args .t .now)) _ (c .before .before .substitute .result) (c .before .before .substitute .ensures) (c .before .if1 .taken)))
+    (λ c κs. search needs)
+    (λ c κs. search needs)
+    (λ c. λ m q u. c .target-path .ensures m q u ∙ ap (resolved m (c .before .before .before .before .before .before .before .before .before .before .before .before .before .args .c)) (built-text q (replace star (c .before .before .before .before .before .before .before .before .before .before .before .before .before .args .pattern .now) (c .before .before .before .before .before .before .before .before .before .before .before .before .before .args .t .now)) _ (c .before .before .before .before .before .before .before .substitute .result) (c .before .before .before .before .before .before .before .substitute .ensures) (c .before .before .before .before .before .before .if1 .left) _ (c .before .before .first .ensures))))

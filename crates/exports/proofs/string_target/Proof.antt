@@ -1,7 +1,5 @@
 use borrow.Author.Needs.{needs}
-use mathlib.Core.Path.{_≡_, sym, _∙_, ap}
-use Prim.Native.Nat.{_≤_}
-use lib.ListN.{length}
+use mathlib.Core.Path.{sym, _∙_, ap}
 use Rattle.definition.specs.Specifier.{parseSpecifier}
 use Rattle.definition.specs.Exports.{stringTarget}
 use Rattle.exports.specs.Contexts.{contextOf}
@@ -15,7 +13,6 @@ string-target-spec =
     (tie.spec
     (λ c κs. search needs)
     (λ c κs. search needs)
-    (λ c κs. c .before .before .before .before .before .before .before .before .before .before .before .before .pre .1)
+    (λ c κs. search needs)
     (λ c. search needs)
-    (λ c. search needs)
-    (λ c. λ q d s a h. let e = text-target h (c .before .before .before .before .before .before .before .before .before .before .before .before .before .before .before .args .work .now) _ (c .before .before .before .before .before .before .before .before .read-text .result) _ (c .before .before .before .before .before .before .before .before .before .before .before .before .before .before .before .pre .0) (c .before .before .before .before .before .before .before .before .read-text .ensures) (c .before .before .before .before .text-at .ensures) in c .before .before .text-target .ensures (c .before .before .before .before .before .before .before .before .before .before .before .before .before .before .before .args .m .now) q a (rw e (text-short h)) (string-is h ∙ sym e) ∙ ap (λ t. stringTarget q (parseSpecifier t) t (contextOf (c .before .before .before .before .before .before .before .before .before .before .before .before .before .before .before .args .m .now) (c .before .before .before .before .before .before .before .before .before .before .before .before .before .before .before .args .c))) e))
+    (λ c. λ q d s a h. let e = text-target h (c .before .before .before .before .before .before .before .before .before .before .before .before .args .work .now) _ (c .before .before .before .before .before .before .read-text .result) _ (c .before .before .before .before .before .before .before .before .before .before .before .before .pre) (c .before .before .before .before .before .before .read-text .ensures) (c .before .before .text-at .ensures) in c .text-target .ensures (c .before .before .before .before .before .before .before .before .before .before .before .before .args .m .now) q a (rw e (text-short h)) (string-is h ∙ sym e) ∙ ap (λ t. stringTarget q (parseSpecifier t) t (contextOf (c .before .before .before .before .before .before .before .before .before .before .before .before .args .m .now) (c .before .before .before .before .before .before .before .before .before .before .before .before .args .c))) e))

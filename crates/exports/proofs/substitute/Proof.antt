@@ -1,17 +1,19 @@
 use native.Mathlib.Omega.{arith}
 use borrow.Author.Needs.{needs}
-use mathlib.Core.Path.{_≡_, refl, sym}
-use Prim.Native.Nat.{_-_}
+use Prim.Native.Nat.{_-_, _≤_}
 use lib.ListN.{length}
-use Rattle.exports.proofs.Stars.{Filling, star-over, star-on, byte-over, byte-on, filled}
+use Rattle.definition.specs.Text.{star}
+use Rattle.laws.specs.TextSteps.{first-inside}
+use Rattle.path.specs.Meaning.{pathAt}
+use Rattle.exports.proofs.Stars.{Filled, fill-start, fill-last, fill-more}
 use Rattle.exports.proofs.substitute.Statement.{statement}
 use Rattle.exports.proofs.substitute.Tie as tie
 
 abbrev Inv-loop : tie.InvT-loop
-Inv-loop t pattern bytes₀ n₀ i₀ bytes n i = Filling pattern t bytes n i
+Inv-loop t pattern out₀ n₀ at₀ out n at = (at ≤ length t) × Filled pattern t (pathAt out n) at
 
 abbrev μ-loop : tie.MeasureT-loop
-μ-loop t pattern bytes₀ n₀ i₀ bytes n i = length t - i
+μ-loop t pattern out₀ n₀ at₀ out n at = length t - at
 
 pub substitute-spec : {M : Type 1} → statement M
 substitute-spec =
@@ -19,20 +21,14 @@ substitute-spec =
     (tie.spec
     Inv-loop
     μ-loop
-    (λ c. record { size = refl; within = omega arith; same = refl })
-    (λ c. search needs)
-    (λ c. search needs)
-    (λ c. star-over (c .before .before .before .before .loop .inv) (c .before .before .before .loop-test .taken) (c .before .if1 .taken) (c .if2 .taken) _)
-    (λ c. sym (c .before .before .before .before .before .loop .inv .size))
+    (λ c. (search needs, fill-start _ _ _))
     (λ c κs. search needs)
     (λ c. search needs)
     (λ c. search needs)
+    (λ c. first-inside star _ _ _ (c .before .find .ensures) (c .before .before .loop .inv .0))
+    (λ c κs. search needs)
+    (λ c. fill-last (c .before .before .before .before .before .before .before .before .args .pattern .now) (c .before .before .before .before .before .before .before .before .args .t .now) _ _ (c .before .before .before .before .find .ensures) (pathAt (c .before .before .before .before .before .loop .out) (c .before .before .before .before .before .loop .n)) _ (c .before .append-at .ensures) (c .before .before .before .before .before .loop .inv .1) (c .if1 .taken))
+    (λ c κs. search needs)
     (λ c. search needs)
-    (λ c. star-on (c .before .before .before .before .before .before .before .loop .inv) (c .before .before .before .before .before .before .loop-test .taken) (c .before .before .before .before .if1 .taken) (c .before .before .before .if2 .left) _ (c .before .copy-at .ensures) (c .before .copy-at .kept .0))
-    (λ c. byte-over (c .before .before .before .before .loop .inv) (c .before .before .before .loop-test .taken) (c .before .if1 .left) (c .if3 .taken) _)
-    (λ c. omega (arith, c .before .before .before .before .loop .inv .size))
     (λ c. search needs)
-    (λ c. search needs)
-    (λ c. search needs)
-    (λ c. byte-on (c .before .before .before .before .loop .inv) (c .before .before .before .loop-test .taken) (c .before .if1 .left) (c .if3 .left))
-    (λ c. filled (c .before .loop .inv) (c .loop-test .left)))
+    (λ c. (omega arith, fill-more (c .before .before .before .before .before .before .before .before .before .before .args .pattern .now) (c .before .before .before .before .before .before .before .before .before .before .args .t .now) _ _ (c .before .before .before .before .before .before .find .ensures) (pathAt (c .before .before .before .before .before .before .before .loop .out) (c .before .before .before .before .before .before .before .loop .n)) _ (c .before .before .before .append-at .ensures) (c .before .before .before .before .before .before .before .loop .inv .1) (c .before .before .if1 .left) _ (c .append-at2 .ensures))))

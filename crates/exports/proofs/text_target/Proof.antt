@@ -1,9 +1,9 @@
 use native.Mathlib.Omega.{arith}
 use borrow.Author.Needs.{needs}
-use mathlib.Core.Path.{_≡_, sym, _∙_}
-use Rattle.exports.specs.declared.Outcome.the-variants.{Empty, InvalidTarget}
+use mathlib.Core.Path.{_∙_}
+use Rattle.exports.specs.declared.Outcome.the-variants.{Empty}
 use Rattle.exports.proofs.Targets.{path-put}
-use Rattle.exports.proofs.Parsing.{text-fits, string-empty, string-valid, string-invalid, context-of}
+use Rattle.exports.proofs.Parsing.{string-empty, plain-path, escaped-path, context-of}
 use Rattle.exports.proofs.text_target.Statement.{statement}
 use Rattle.exports.proofs.text_target.Tie as tie
 
@@ -13,18 +13,16 @@ text-target-spec =
     (tie.spec
     (λ c κs. search needs)
     (λ c κs. search needs)
-    (λ c. search needs)
-    (λ c. λ m q a l i. path-put m q _ (c .before .before .with-path .result) (c .before .before .before .before .before .before .before .before .before .before .args .c) Empty (c .before .before .before .before .before .before .before .before .before .before .args .s .now) (c .before .before .before .before .before .before .before .before .before .before .args .path .now) (c .before .before .with-path .ensures) (omega (arith, l, c .before .before .before .before .before .before .before .before .before .before .pre)) ∙ string-empty (c .before .before .before .before .before .before .before .before .before .before .args .s .now) (c .before .before .before .before .before .parse .result) (c .before .before .before .before .before .parse .ensures) m q (c .before .before .before .before .before .before .before .before .before .before .args .c) l (c .before .before .before .before .if1 .taken))
+    (λ c. λ m q a l i. path-put m q _ (c .with-path .result) (c .before .before .before .before .before .before .before .args .c) Empty (c .before .before .before .before .before .before .before .args .s .now) (c .with-path .ensures) (omega arith) ∙ string-empty (c .before .before .before .before .before .before .before .args .s .now) (c .before .before .before .parse .result) (c .before .before .before .parse .ensures) m q (c .before .before .before .before .before .before .before .args .c) l (c .before .before .if1 .taken))
     (λ c κs. search needs)
     (λ c κs. search needs)
     (λ c κs. search needs)
     (λ c κs. search needs)
     (λ c κs. search needs)
-    (λ c. search needs)
     (λ c κs. search needs)
-    (λ c κs. c .before .before .before .before .before .before .before .before .before .before .before .before .before .before .before .before .before .before .pre)
-    (λ c. search needs)
-    (λ c. λ m q a l i. c .before .before .normalized-target .ensures m q a ∙ string-valid (c .before .before .before .before .before .before .before .before .before .before .before .before .before .before .before .before .before .before .before .before .before .args .s .now) (c .before .before .before .before .before .before .before .before .before .before .before .before .before .before .before .before .parse .result) (c .before .before .before .before .before .before .before .before .before .before .before .before .before .before .before .before .parse .ensures) m q (c .before .before .before .before .before .before .before .before .before .before .before .before .before .before .before .before .before .before .before .before .before .args .c) l (λ k. omega (arith, c .before .before .before .before .before .before .before .before .before .before .before .before .before .before .before .before .before .before .shared-slice-known3 .given k)) (c .before .before .before .before .before .before .before .before .before .before .before .before .before .before .before .if1 .left) (c .before .before .before .before .before .before .before .before .before .before .before .with-query-fragment .result) (context-of m (c .before .before .before .before .before .before .before .before .before .before .before .before .before .before .before .before .before .before .before .before .before .args .at) (c .before .before .before .before .before .before .before .before .before .before .before .before .before .before .before .before .before .before .before .before .before .args .s .now) i (c .before .before .before .before .before .before .before .before .before .before .before .before .before .before .before .before .parse .result .query) (c .before .before .before .before .before .before .before .before .before .before .before .before .before .before .before .before .parse .result .fragment) _ _ _ (c .before .before .before .before .before .before .before .before .before .before .before .before .before .before .first .ensures) (c .before .before .before .before .before .before .before .before .before .before .before .before .before .part .ensures) (c .before .before .before .before .before .before .before .before .before .before .before .before .part2 .ensures) (c .before .before .before .before .before .before .before .before .before .before .before .before .before .before .before .before .before .before .before .before .before .args .c) (c .before .before .before .before .before .before .before .before .before .before .before .with-query-fragment .result) (c .before .before .before .before .before .before .before .before .before .before .before .with-query-fragment .ensures m)) _ (c .before .before .before .before .before .before .before .first2 .ensures) (sym (c .before .before .before .before .before .starts-with .ensures) ∙ c .before .before .before .before .if2 .taken))
     (λ c κs. search needs)
-    (λ c. search needs)
-    (λ c. λ m q a l i. path-put m q _ (c .before .before .with-path2 .result) (c .before .before .before .before .before .before .before .before .before .before .before .with-query-fragment .result) InvalidTarget _ (c .before .before .before .before .before .before .before .before .before .before .before .before .before .before .before .before .before .before .before .before .before .args .path .now) (c .before .before .with-path2 .ensures) (omega (arith, text-fits (c .before .before .before .before .before .before .before .before .before .before .before .before .before .before .before .before .before .before .before .before .before .args .s .now) (c .before .before .before .before .before .before .before .before .before .before .before .before .before .before .before .before .parse .result) (c .before .before .before .before .before .before .before .before .before .before .before .before .before .before .before .before .parse .ensures) m q (c .before .before .before .before .before .before .before .before .before .before .before .before .before .before .before .before .before .before .before .before .before .args .c) l (λ k. omega (arith, c .before .before .before .before .before .before .before .before .before .before .before .before .before .before .before .before .before .before .shared-slice-known3 .given k)) (c .before .before .before .before .before .before .before .before .before .before .before .before .before .before .before .if1 .left) (c .before .before .before .before .before .before .before .before .before .before .before .with-query-fragment .result) (context-of m (c .before .before .before .before .before .before .before .before .before .before .before .before .before .before .before .before .before .before .before .before .before .args .at) (c .before .before .before .before .before .before .before .before .before .before .before .before .before .before .before .before .before .before .before .before .before .args .s .now) i (c .before .before .before .before .before .before .before .before .before .before .before .before .before .before .before .before .parse .result .query) (c .before .before .before .before .before .before .before .before .before .before .before .before .before .before .before .before .parse .result .fragment) _ _ _ (c .before .before .before .before .before .before .before .before .before .before .before .before .before .before .first .ensures) (c .before .before .before .before .before .before .before .before .before .before .before .before .before .part .ensures) (c .before .before .before .before .before .before .before .before .before .before .before .before .part2 .ensures) (c .before .before .before .before .before .before .before .before .before .before .before .before .before .before .before .before .before .before .before .before .before .args .c) (c .before .before .before .before .before .before .before .before .before .before .before .with-query-fragment .result) (c .before .before .before .before .before .before .before .before .before .before .before .with-query-fragment .ensures m)) _ (c .before .before .before .before .before .before .before .first2 .ensures), c .before .before .before .before .before .before .before .before .before .before .before .before .before .before .before .before .before .before .before .before .before .pre)) ∙ string-invalid (c .before .before .before .before .before .before .before .before .before .before .before .before .before .before .before .before .before .before .before .before .before .args .s .now) (c .before .before .before .before .before .before .before .before .before .before .before .before .before .before .before .before .parse .result) (c .before .before .before .before .before .before .before .before .before .before .before .before .before .before .before .before .parse .ensures) m q (c .before .before .before .before .before .before .before .before .before .before .before .before .before .before .before .before .before .before .before .before .before .args .c) l (λ k. omega (arith, c .before .before .before .before .before .before .before .before .before .before .before .before .before .before .before .before .before .before .shared-slice-known3 .given k)) (c .before .before .before .before .before .before .before .before .before .before .before .before .before .before .before .if1 .left) (c .before .before .before .before .before .before .before .before .before .before .before .with-query-fragment .result) (context-of m (c .before .before .before .before .before .before .before .before .before .before .before .before .before .before .before .before .before .before .before .before .before .args .at) (c .before .before .before .before .before .before .before .before .before .before .before .before .before .before .before .before .before .before .before .before .before .args .s .now) i (c .before .before .before .before .before .before .before .before .before .before .before .before .before .before .before .before .parse .result .query) (c .before .before .before .before .before .before .before .before .before .before .before .before .before .before .before .before .parse .result .fragment) _ _ _ (c .before .before .before .before .before .before .before .before .before .before .before .before .before .before .first .ensures) (c .before .before .before .before .before .before .before .before .before .before .before .before .before .part .ensures) (c .before .before .before .before .before .before .before .before .before .before .before .before .part2 .ensures) (c .before .before .before .before .before .before .before .before .before .before .before .before .before .before .before .before .before .before .before .before .before .args .c) (c .before .before .before .before .before .before .before .before .before .before .before .with-query-fragment .result) (c .before .before .before .before .before .before .before .before .before .before .before .with-query-fragment .ensures m)) _ (c .before .before .before .before .before .before .before .first2 .ensures) (sym (c .before .before .before .before .before .starts-with .ensures) ∙ c .before .before .before .before .if2 .left)))
+    (λ c κs. search needs)
+    (λ c κs. search needs)
+    (λ c. λ m q a l i. escaped-path (c .before .before .before .before .before .before .before .before .before .before .before .before .before .before .before .before .before .before .before .before .args .s .now) (c .before .before .before .before .before .before .before .before .before .before .before .before .before .before .before .before .parse .result) (c .before .before .before .before .before .before .before .before .before .before .before .before .before .before .before .before .parse .ensures) m q (c .before .before .before .before .before .before .before .before .before .before .before .before .before .before .before .before .before .before .before .before .args .c) l (λ k. omega (arith, c .before .before .before .before .before .before .before .before .before .before .before .before .before .before .before .before .before .shared-slice-known3 .given k)) (c .before .before .before .before .before .before .before .before .before .before .before .before .before .before .before .if1 .left) (c .before .before .before .before .before .before .before .before .before .before .before .with-query-fragment .result) (context-of m (c .before .before .before .before .before .before .before .before .before .before .before .before .before .before .before .before .before .before .before .before .args .at) (c .before .before .before .before .before .before .before .before .before .before .before .before .before .before .before .before .before .before .before .before .args .s .now) i (c .before .before .before .before .before .before .before .before .before .before .before .before .before .before .before .before .parse .result .query) (c .before .before .before .before .before .before .before .before .before .before .before .before .before .before .before .before .parse .result .fragment) _ _ _ (c .before .before .before .before .before .before .before .before .before .before .before .before .before .before .first .ensures) (c .before .before .before .before .before .before .before .before .before .before .before .before .before .part .ensures) (c .before .before .before .before .before .before .before .before .before .before .before .before .part2 .ensures) (c .before .before .before .before .before .before .before .before .before .before .before .before .before .before .before .before .before .before .before .before .args .c) (c .before .before .before .before .before .before .before .before .before .before .before .with-query-fragment .result) (c .before .before .before .before .before .before .before .before .before .before .before .with-query-fragment .ensures m)) _ (c .before .before .before .before .before .before .before .before .before .before .first2 .ensures) _ (c .before .before .before .before .before .before .before .before .before .if2 .taken) _ _ (c .before .before .before .before .before .before .unescaped .result) (c .before .before .before .before .before .before .unescaped .ensures) (c .before .before .first3 .ensures) (c .parsed-target .ensures m q a))
+    (λ c κs. search needs)
+    (λ c. λ m q a l i. plain-path (c .before .before .before .before .before .before .before .before .before .before .before .before .before .args .s .now) (c .before .before .before .before .before .before .before .before .before .parse .result) (c .before .before .before .before .before .before .before .before .before .parse .ensures) m q (c .before .before .before .before .before .before .before .before .before .before .before .before .before .args .c) l (λ k. omega (arith, c .before .before .before .before .before .before .before .before .before .before .shared-slice-known3 .given k)) (c .before .before .before .before .before .before .before .before .if1 .left) (c .before .before .before .before .with-query-fragment .result) (context-of m (c .before .before .before .before .before .before .before .before .before .before .before .before .before .args .at) (c .before .before .before .before .before .before .before .before .before .before .before .before .before .args .s .now) i (c .before .before .before .before .before .before .before .before .before .parse .result .query) (c .before .before .before .before .before .before .before .before .before .parse .result .fragment) _ _ _ (c .before .before .before .before .before .before .before .first .ensures) (c .before .before .before .before .before .before .part .ensures) (c .before .before .before .before .before .part2 .ensures) (c .before .before .before .before .before .before .before .before .before .before .before .before .before .args .c) (c .before .before .before .before .with-query-fragment .result) (c .before .before .before .before .with-query-fragment .ensures m)) _ (c .before .before .before .first2 .ensures) _ (c .before .before .if2 .left) (c .parsed-target2 .ensures m q a)))
