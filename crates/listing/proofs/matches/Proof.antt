@@ -13,13 +13,13 @@ matches-spec =
     (λ c. search needs)
     (λ c.
     let a = c .before .before .before .args in
-    sym (match-long (a .l .now) (a .at) (a .end) (a .path .now) (c .before .before .before .pre) (c .if1 .taken)))
+    sym (match-long (a .l .now) (a .at) (a .end) (a .path .now) (c .before .before .before .pre) (λ z. omega (arith, z, c .if1 .taken))))
     (λ c.
     let a = c .before .before .before .before .args in
     sym (match-beyond (a .l .now) (a .at) (a .end) (a .path .now) (c .if2 .taken)))
     (λ c.
     let a = c .before .before .before .before .before .args in
-    sym (match-empty (a .l .now) (a .at) (a .end) (a .path .now) (c .before .before .if1 .left) (omega (arith, c .before .if2 .left)) (c .if3 .taken)))
+    sym (match-empty (a .l .now) (a .at) (a .end) (a .path .now) (omega (arith, c .before .before .if1 .left)) (omega (arith, c .before .if2 .left)) (c .if3 .taken)))
     (λ c. search needs)
     (λ c. search needs)
     (λ c. search needs)
@@ -27,7 +27,7 @@ matches-spec =
     (λ c. search needs)
     (λ c.
     let a = c .before .before .before .before .before .before .before .before .args in
-    sym (match-last (a .l .now) (a .at) (a .end) (a .path .now) (c .before .before .before .before .before .if1 .left) (omega (arith, c .before .before .before .before .if2 .left)) (omega (arith, c .before .before .before .if3 .left)) (c .if4 .taken)))
+    sym (match-last (a .l .now) (a .at) (a .end) (a .path .now) (omega (arith, c .before .before .before .before .before .if1 .left)) (omega (arith, c .before .before .before .before .if2 .left)) (omega (arith, c .before .before .before .if3 .left)) (c .if4 .taken)))
     (λ c. search needs)
     (λ c. search needs)
     (λ c. search needs)
