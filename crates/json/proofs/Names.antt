@@ -228,6 +228,14 @@ table-empty m ps hs = record {
   only = λ x e. no (let z : _≡_ {A = ℕ} 0 1 = cc in omega arith);
 }
 
+-- the name that stands at the first place is the only one
+pub table-one : {m ps hs key s : List ℕ} {p : ℕ} → quoted (drop p m) ≡ got key s → getD ps 0 0 ≡ p → getD hs 0 0 ≡ markOf 0 key → Table m ps hs 1 (key ∷ [])
+unfolding shifted
+table-one {m} {ps} {hs} q p h = table-more (table-empty m ps hs) q h (record { within = omega arith; below = λ i l. no (omega arith); above = λ i l b. no (omega arith) }) (first p) (first refl)
+  where
+    first : {a : List ℕ} {x : ℕ} → getD a 0 0 ≡ x → Inserted a a 0 0 x
+    first e = record { is = λ j r. let z : j ≡ 0 = omega arith in rw z e }
+
 -- a name that was read
 pub name-read : (m : List ℕ) (ns : List (List ℕ)) (texts : ℕ → List ℕ) (n at end : ℕ) (t k : List ℕ) (r : Name) → quoted (drop at m) ≡ got k (drop end m) → t ≡ k → Fresh texts n ns t end r → NameRead m ns texts n at r
 unfolding memberName

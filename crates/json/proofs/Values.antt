@@ -12,7 +12,7 @@ use Rattle.definition.specs.Text.{if_then_else_}
 use Rattle.definition.specs.Json.{Json, str, arr, obj, Elements, noElement, element, Members, noMember, member, Read, got, fault, malformed, beyond, andThen, skipSpace, quoted, follow, elements, memberName, colon, members, array, object, valueBy, value}
 use Rattle.json_text.specs.Scanned.{faultOf, Reads}
 use Rattle.json.specs.Values.{scalarOf, Next, more, close, neither, afterOf, afterAt}
-use Rattle.json.specs.Names.{Table, Inserted, Key, KeyRead, colonAt, keyOf}
+use Rattle.json.specs.Names.{Table, Inserted, Key, KeyRead, Named, colonAt, keyOf}
 use Rattle.json_text.specs.declared.Fault as code
 use Rattle.json_text.specs.declared.Fault.the-variants.{Malformed, Beyond}
 use Rattle.json.specs.declared.Name.{Name}
@@ -21,7 +21,7 @@ use Rattle.json_text.specs.declared.Scan.the-variants.{End, Fault}
 use Rattle.json.specs.declared.Then.{Then}
 use Rattle.json.specs.declared.Then.the-variants.{More, Close, Neither}
 use Rattle.json_text.proofs.Rules.{here, past}
-use Rattle.json.proofs.Names.{table-more, table-empty}
+use Rattle.json.proofs.Names.{table-more, table-empty, table-one}
 use Rattle.json_text.proofs.Laws.{faulty, ended, then-fault, then-end, reads-map}
 
 none : {P : Type 0} → ⊥ → P
@@ -219,56 +219,78 @@ module _ {v : List ℕ → Read Json} {m s : List ℕ} {i n : ℕ} (g : Elems v 
       pub elems-more : {j : ℕ} → t ≡ More j → Elems v m s j (n - 1)
       elems-more c = record { rest = λ k. g .rest (element-end m v n i (λ z. omega arith) h q (follow-more m t 93 (skipSpace (drop e m)) noElement (λ u. elements v (n - 1) u) a c k)) }
 
--- the loop over an object: c names were read, and so many may come
-pub record Membs (v : List ℕ → Read Json) (m s ps hs : List ℕ) (i c : ℕ) : Type 0 where
+-- members one after the other: c names were read and so many may come; whatever reads those from i on has G
+pub record Membs (v : List ℕ → Read Json) (m : List ℕ) (G : Scan → Type 0) (ps hs : List ℕ) (i c : ℕ) : Type 0 where
   pub names : List (List ℕ)
   pub table : Table m ps hs c names
-  pub places : length ps ≡ 128
-  pub marks : length hs ≡ 128
   pub within : c ≤ 128
-  pub rest : {r : Scan} → Reads m (members v names (128 - c) (drop i m)) r → Reads m (object v s) r
+  pub rest : {r : Scan} → Reads m (members v names (128 - c) (drop i m)) r → G r
 
-module _ {v : List ℕ → Read Json} {m s ps hs : List ℕ} {i c : ℕ} (g : Membs v m s ps hs i c) where
-  pub membs-over : {r : Scan} → 128 ≤ c → ((ns : List (List ℕ)) → Reads m (members v ns 0 (drop i m)) r) → Reads m (object v s) r
+module _ {v : List ℕ → Read Json} {m : List ℕ} {G : Scan → Type 0} {ps hs : List ℕ} {i c : ℕ} (g : Membs v m G ps hs i c) where
+  pub membs-over : {r : Scan} → 128 ≤ c → ((ns : List (List ℕ)) → Reads m (members v ns 0 (drop i m)) r) → G r
   membs-over l h = let z : 128 - c ≡ 0 = omega arith in g .rest (rw z (h (g .names)))
 
   module _ (l : c < 128) {q : Name} (k : (ns : List (List ℕ)) (h : Table m ps hs c ns) → KeyRead m ns (h .texts) c i q) where
-    pub membs-key : {f : code.Fault} → q ≡ Name.Fault f → Reads m (object v s) (Fault f)
+    pub membs-key : {f : code.Fault} → q ≡ Name.Fault f → G (Fault f)
     membs-key e = g .rest (key-fault m v (128 - c) i (g .names) (λ z. omega arith) (rw e at (k (g .names) (g .table))))
 
-    module _ {from h₁ spot : ℕ} (kq : q ≡ Name.New from h₁ spot) {r : Scan} (h : Reads m (v (drop from m)) r) where
+    module _ {from h₁ spot : ℕ} (kq : q ≡ Name.New from h₁ spot) where
       the-key : Key m (g .table .texts) c (keyOf (g .names) (drop i m)) i from h₁ spot
       the-key = rw kq at (k (g .names) (g .table))
 
       pub membs-spot : spot ≤ c
       membs-spot = the-key .fits .within
 
-      pub membs-fault : {f : code.Fault} → r ≡ Fault f → Reads m (object v s) (Fault f)
-      membs-fault e = g .rest (member-fault m v (128 - c) i (g .names) (λ z. omega arith) the-key h e)
+      pub membs-named : Named m i h₁
+      membs-named = record { name = the-key .name; behind = the-key .behind; quote = the-key .quote; mark = the-key .mark }
 
-      module _ {e : ℕ} (re : r ≡ End e) {t : Then} (a : afterOf 125 (skipSpace (drop e m)) ≡ afterAt m t) where
-        pub membs-neither : t ≡ Neither → Reads m (object v s) (Fault Malformed)
-        membs-neither x = g .rest (member-end m v (128 - c) i (g .names) (λ z. omega arith) the-key h re (follow-neither m t 125 (skipSpace (drop e m)) noMember (λ u. members v (the-key .name ∷ g .names) (128 - c - 1) u) a x))
+      module _ {r : Scan} (h : Reads m (v (drop from m)) r) where
+        pub membs-fault : {f : code.Fault} → r ≡ Fault f → G (Fault f)
+        membs-fault e = g .rest (member-fault m v (128 - c) i (g .names) (λ z. omega arith) the-key h e)
 
-        pub membs-close : {j : ℕ} → t ≡ Close j → Reads m (object v s) (End j)
-        membs-close x = g .rest (member-end m v (128 - c) i (g .names) (λ z. omega arith) the-key h re (follow-close m t 125 (skipSpace (drop e m)) noMember (λ u. members v (the-key .name ∷ g .names) (128 - c - 1) u) a x))
+        module _ {e : ℕ} (re : r ≡ End e) {t : Then} (a : afterOf 125 (skipSpace (drop e m)) ≡ afterAt m t) where
+          pub membs-neither : t ≡ Neither → G (Fault Malformed)
+          membs-neither x = g .rest (member-end m v (128 - c) i (g .names) (λ z. omega arith) the-key h re (follow-neither m t 125 (skipSpace (drop e m)) noMember (λ u. members v (the-key .name ∷ g .names) (128 - c - 1) u) a x))
 
-        pub membs-more : {j : ℕ} {ps′ hs′ : List ℕ} → t ≡ More j → length ps′ ≡ length ps → length hs′ ≡ length hs → Inserted ps ps′ c spot i → Inserted hs hs′ c spot h₁ → Membs v m s ps′ hs′ j (c + 1)
-        membs-more x lp lh np nh = let p = g .places in let o = g .marks in let d : 128 - c - 1 ≡ 128 - (c + 1) = omega arith in record {
-          names = the-key .name ∷ g .names;
-          table = table-more (g .table) (the-key .quote) (the-key .mark) (the-key .fits) np nh;
-          places = omega arith;
-          marks = omega arith;
-          within = omega arith;
-          rest = λ z. g .rest (member-end m v (128 - c) i (g .names) (λ z. omega arith) the-key h re (follow-more m t 125 (skipSpace (drop e m)) noMember (λ u. members v (the-key .name ∷ g .names) (128 - c - 1) u) a x (rw d z)));
-        }
+          pub membs-close : {j : ℕ} → t ≡ Close j → G (End j)
+          membs-close x = g .rest (member-end m v (128 - c) i (g .names) (λ z. omega arith) the-key h re (follow-close m t 125 (skipSpace (drop e m)) noMember (λ u. members v (the-key .name ∷ g .names) (128 - c - 1) u) a x))
 
-pub membs-begin : (v : List ℕ → Read Json) (m s ps hs : List ℕ) (i : ℕ) → s ≡ drop i m → i < length m → (getD m i 0 ≡ 125 → ⊥) → length ps ≡ 128 → length hs ≡ 128 → Membs v m s ps hs i 0
-membs-begin v m s ps hs i h l e p d = record {
+          next : {j : ℕ} {o : Scan} → t ≡ More j → Reads m (members v (the-key .name ∷ g .names) (128 - (c + 1)) (drop j m)) o → G o
+          next x z = let d : 128 - c - 1 ≡ 128 - (c + 1) = omega arith in g .rest (member-end m v (128 - c) i (g .names) (λ z. omega arith) the-key h re (follow-more m t 125 (skipSpace (drop e m)) noMember (λ u. members v (the-key .name ∷ g .names) (128 - c - 1) u) a x (rw d z)))
+
+          pub membs-next : {j : ℕ} {o : Scan} → t ≡ More j → ((n : Named m i h₁) → Reads m (members v (n .name ∷ g .names) (128 - (c + 1)) (drop j m)) o) → G o
+          unfolding membs-named
+          membs-next x z = next x (z membs-named)
+
+          pub membs-more : {j : ℕ} {ps′ hs′ : List ℕ} → t ≡ More j → Inserted ps ps′ c spot i → Inserted hs hs′ c spot h₁ → Membs v m G ps′ hs′ j (c + 1)
+          membs-more x np nh = record {
+            names = the-key .name ∷ g .names;
+            table = table-more (g .table) (the-key .quote) (the-key .mark) (the-key .fits) np nh;
+            within = omega arith;
+            rest = λ z. next x z;
+          }
+
+-- the first member, before which no name stands
+abbrev pub membs-first : (v : List ℕ → Read Json) (m s ps hs : List ℕ) (i : ℕ) → s ≡ drop i m → i < length m → (getD m i 0 ≡ 125 → ⊥) → Membs v m (λ r. Reads m (object v s) r) ps hs i 0
+membs-first v m s ps hs i h l e = record {
   names = [];
   table = table-empty m ps hs;
-  places = p;
-  marks = d;
   within = omega arith;
   rest = λ g. object-some m v s i h l e g;
 }
+
+-- what reads the members from j on, behind the first, whose name stands at i and has the mark h
+abbrev pub Behind : (List ℕ → Read Json) → List ℕ → ℕ → ℕ → ℕ → Scan → Type 0
+Behind v m i h j r = (n : Named m i h) → Reads m (members v (n .name ∷ []) 127 (drop j m)) r
+
+-- they begin with that name in the tables
+pub membs-second : (v : List ℕ → Read Json) (m ps hs : List ℕ) (i j h : ℕ) → Named m i h → getD ps 0 0 ≡ i → getD hs 0 0 ≡ h → Membs v m (Behind v m i h j) ps hs j 1
+membs-second v m ps hs i j h k p x = record {
+  names = k .name ∷ [];
+  table = table-one (k .quote) p (x ∙ k .mark);
+  within = omega arith;
+  rest = λ g n. let e : k .name ≡ n .name = same-name (k .quote) (n .quote) in rw e at g;
+}
+  where
+    same-name : {x : Read (List ℕ)} {a b s t : List ℕ} → x ≡ got a s → x ≡ got b t → a ≡ b
+    same-name p q = cc

@@ -86,3 +86,10 @@ NameRead m ns texts k i (Fault f) = memberName ns (drop i m) ≡ fault (faultOf 
 abbrev pub KeyRead : List ℕ → List (List ℕ) → (ℕ → List ℕ) → ℕ → ℕ → Name → Type 0
 KeyRead m ns texts k i (New end h at) = Key m texts k (keyOf ns (drop i m)) i end h at
 KeyRead m ns texts k i (Fault f) = keyOf ns (drop i m) ≡ fault (faultOf f)
+
+-- a name stands at i, and its mark is h
+pub record Named (m : List ℕ) (i h : ℕ) : Type 0 where
+  pub name : List ℕ
+  pub behind : List ℕ
+  pub quote : quoted (drop i m) ≡ got name behind
+  pub mark : h ≡ markOf 0 name

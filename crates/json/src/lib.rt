@@ -2,13 +2,13 @@
 use json_text::Fault;
 use json_text::Scan;
 ghost use mathlib.Core.Path.{_≡_};
-ghost use mathlib.Core.List.{List};
+ghost use mathlib.Core.List.{List, [], _∷_};
 ghost use Prim.Native.Nat.{ℕ, _≤_, _<_};
 ghost use lib.ListN.{length, drop};
 ghost use Rattle.definition.specs.Text.{isDigit};
 ghost use Rattle.definition.specs.Json.{isSpace, skipSpace, skipDigits, digits as digitsOf, startsValue, sign as signOf, exponent as exponentOf, fraction as fractionOf, integer as integerOf, word as wordOf, quoted as quotedOf, Read, Json, value as valueOf, array as arrayOf, object as objectOf, elements as elementsOf, members as membersOf, got};
 ghost use Rattle.json_text.specs.Scanned.{Reads};
-ghost use Rattle.json.specs.Names.{markOf, rank, Ordered, Table, Spotted, Inserted, Fresh, NameRead, KeyRead, colonAt};
+ghost use Rattle.json.specs.Names.{markOf, rank, Ordered, Table, Spotted, Inserted, Fresh, NameRead, KeyRead, Named, colonAt};
 ghost use Rattle.json.specs.Values.{scalarOf, afterOf, afterAt};
 
 // 01's limit of the members of an object and of the elements of an array.
@@ -495,25 +495,55 @@ fn array(m: &[u8], at: usize, depth: usize) -> Scan
     extra_element(m, i)
 }
 
-// An object behind its bracket.
+// An object behind its bracket. The name of its first member repeats none, so that only a second one needs the tables: to clear them
+// costs more than to read a small object.
 fn object(m: &[u8], at: usize, depth: usize) -> Scan
     ensures { λ r. ⌜ Reads (now (m .entry)) (objectOf (valueOf depth) (skipSpace (drop at (now (m .entry))))) r ⌝ }
 {
-    let mut i = skip_space(m, at);
+    let i = skip_space(m, at);
     if i >= m.len() {
         return Scan::Fault(Fault::Malformed);
     }
     if m[i] == b'}' {
         return Scan::End(i + 1);
     }
+    let none = [0usize; 0];
+    let start = key(m, i, &none, &none, 0);
+    match start {
+        Name::Fault(f) => Scan::Fault(f),
+        Name::New(from, mark, _) => {
+            let read = value(m, from, depth);
+            match read {
+                Scan::Fault(f) => Scan::Fault(f),
+                Scan::End(end) => {
+                    let then = after(m, end, b'}');
+                    match then {
+                        Then::Neither => Scan::Fault(Fault::Malformed),
+                        Then::Close(next) => Scan::End(next),
+                        Then::More(next) => more_members(m, next, depth, i, mark),
+                    }
+                }
+            }
+        }
+    }
+}
+
+// The members of an object from its second on; the name of the first stands at `first` and has the mark `mark`.
+fn more_members(m: &[u8], at: usize, depth: usize, first: usize, mark: usize) -> Scan
+    requires { ⌜ Named (now m) first mark ⌝ }
+    ensures { λ r. ⌜ ((n : Named (now (m .entry)) first mark) → Reads (now (m .entry)) (membersOf (valueOf depth) (n .name ∷ []) 127 (drop at (now (m .entry)))) r) ⌝ }
+{
+    let mut i = at;
     let mut names = [0usize; 128];
     let mut marks = [0usize; 128];
-    let mut count: usize = 0;
+    names[0] = first;
+    marks[0] = mark;
+    let mut count: usize = 1;
     while count < MEMBERS {
         let start = key(m, i, &names, &marks, count);
         match start {
             Name::Fault(f) => return Scan::Fault(f),
-            Name::New(from, mark, spot) => {
+            Name::New(from, other, spot) => {
                 let read = value(m, from, depth);
                 match read {
                     Scan::Fault(f) => return Scan::Fault(f),
@@ -524,7 +554,7 @@ fn object(m: &[u8], at: usize, depth: usize) -> Scan
                             Then::Close(next) => return Scan::End(next),
                             Then::More(next) => {
                                 insert(&mut names, count, spot, i);
-                                insert(&mut marks, count, spot, mark);
+                                insert(&mut marks, count, spot, other);
                                 count += 1;
                                 i = next;
                             }
