@@ -287,14 +287,24 @@ fn resolve_exports(
     requires { ⌜ (1024 ≤ length (now work)) × (length (manifestOf (now dir)) ≤ 2048) ⌝ }
     ensures { λ r. ⌜ ((j : Json) → Stands 15 (drop at (now (manifest .entry))) j → Done (seenBy (settingsOf (now (s .entry))) (now (l .entry))) (matchExports (settingsOf (now (s .entry))) (now (spec .entry)) (now (dir .entry)) (now (subpath .entry)) j) (tapeOf (now (result .entry)) (now (nums .entry)) (now (text .entry)) m) (tapeOf (now (result .exit)) (now (nums .exit)) (now (text .exit)) (r .mark)) (stepOf (r .way))) ⌝ }
 {
-    let mut path = [0u8; 2048];
-    let r = exports::package_exports_resolve(manifest, at, s, dir, subpath, work, &mut path);
+    let mut path = PathBuf::new();
+    let r = exports::package_exports_resolve(
+        manifest,
+        at,
+        s,
+        dir,
+        subpath,
+        work,
+        &mut path.bytes,
+    );
     let key = r.key;
     let matched = r.matched;
     let a = r.answer;
     let outcome = a.outcome;
     let context = a.context;
-    let target = path::first(&path, a.len);
+    path.len = a.len;
+    let n = path.len;
+    let target = path::first(&path.bytes, n);
     let way = exports_ending(
         manifest,
         dir,

@@ -13,19 +13,32 @@ pub resolve-exports-spec : {M : Type 1} → statement M
 resolve-exports-spec =
     tie.close
     (tie.spec
-    (λ c. search needs)
     (λ c κs. search needs)
-    (λ c. search needs)
     (λ c κs. search needs)
-    (λ c κs. let k = c .before .before .before .before .before .before .before .before .before .package-exports-resolve .ensures .1 .0 in (omega (arith, c .before .before .before .before .before .before .before .before .before .before .before .before .before .before .before .before .before .before .before .before .before .before .pre .0), c .before .before .before .before .before .before .before .before .before .before .before .before .before .before .before .before .before .before .before .before .before .before .pre .1))
+    (λ c κs. search needs)
+    (λ c κs.
+    let k = c .before .before .before .before .before .before .before .before .before .before .package-exports-resolve .ensures .1 in
+    (omega (arith, c .before .before .before .before .before .before .before .before .before .before .before .before .before .before .before .before .before .before .before .before .before .before .before .before .pre .0), c .before .before .before .before .before .before .before .before .before .before .before .before .before .before .before .before .before .before .before .before .before .before .before .before .pre .1))
     (λ c. search needs)
     (λ c. search needs)
     (λ c. search needs)
     (λ c. search needs)
-    (λ c. let a = c .before .before .before .before .before .before .before .before .before .before .before .before .before .before .before .before .before .before .before .before .before .before .before .before .before .before .before .before .before .args in let x = c .before .before .before .before .before .before .before .before .before .before .before .before .before .before .before .before .package-exports-resolve in λ j h. exports-ended _ _ _ _ j (resolvedOf (a .manifest .now) (a .dir .now) (a .subpath .now) _ (x .result)) (x .ensures .0 j (c .before .before .before .before .before .before .before .before .before .before .before .before .before .before .before .before .before .before .before .before .before .before .before .before .before .before .before .before .before .pre .0) (omega arith) h) _ (c .before .before .before .before .before .before .exports-ending .result) (rw (c .before .before .before .before .before .before .before .before .before .first .ensures) at (c .before .before .before .before .before .before .exports-ending .ensures (seenBy (settingsOf (a .s .now)) (a .l .now)) (a .nums .now) (a .text .now) (a .m) (contextOf (a .manifest .now) (x .result .answer .context)))) (c .before .match .keys2))
-    (λ c κs. let k = c .before .before .before .before .before .before .before .before .before .before .before .before .before .before .before .before .before .before .before .before .package-exports-resolve .ensures .1 .0 in let n = c .before .before .before .before .before .before .before .before .before .before .exports-ending .kept .1 .1 .1 .1 .1 .1 .1 .1 .0 in omega (arith, c .before .before .before .before .before .before .before .before .before .before .before .before .before .before .before .before .before .before .before .before .before .before .before .before .before .before .before .before .before .before .before .before .before .pre .0))
+    (λ c.
+    let s = c .before .before .before .before .before .before .before .before .before .before .before .before .before .before .before .before .before .before .before .before .before .before .before .before .before .before .before .before .before .before .before in
+    let a = s .args in
+    let x = c .before .before .before .before .before .before .before .before .before .before .before .before .before .before .before .before .before .package-exports-resolve in
+    λ j h. exports-ended _ _ _ _ j (resolvedOf (a .manifest .now) (a .dir .now) (a .subpath .now) _ (x .result)) (x .ensures .0 j (s .pre .0) h) _ (c .before .before .before .before .before .before .exports-ending .result) (rw (c .before .before .before .before .before .before .before .before .before .first .ensures) at (c .before .before .before .before .before .before .exports-ending .ensures (seenBy (settingsOf (a .s .now)) (a .l .now)) (a .nums .now) (a .text .now) (a .m) (contextOf (a .manifest .now) (x .result .answer .context)))) (c .before .match .keys2))
+    (λ c κs.
+    let k = c .before .before .before .before .before .before .before .before .before .before .before .before .before .before .before .before .before .before .before .before .before .package-exports-resolve .ensures .1 in
+    let n = c .before .before .before .before .before .before .before .before .before .before .exports-ending .kept .1 .1 .1 .1 .1 .1 .1 .1 .0 in
+    omega (arith, c .before .before .before .before .before .before .before .before .before .before .before .before .before .before .before .before .before .before .before .before .before .before .before .before .before .before .before .before .before .before .before .before .before .before .before .pre .0))
     (λ c. search needs)
     (λ c. search needs)
     (λ c. search needs)
-    (λ c. c .before .before .before .before .before .before .before .before .resolve-in-context .kept .1 .1 .1 .1 .1 .1 .1 .1 .1 .1 .0 ∙ c .before .before .before .before .before .before .before .before .before .before .before .before .before .before .before .before .before .before .before .exports-ending .kept .1 .1 .1 .1 .1 .1 .1 .1 .0 ∙ c .before .before .before .before .before .before .before .before .before .before .before .before .before .before .before .before .before .before .before .before .before .before .before .before .before .before .before .before .before .package-exports-resolve .ensures .1 .0)
-    (λ c. let a = c .before .before .before .before .before .before .before .before .before .before .before .before .before .before .before .before .before .before .before .before .before .before .before .before .before .before .before .before .before .before .before .before .before .before .before .before .before .before .before .before .before .before .args in let x = c .before .before .before .before .before .before .before .before .before .before .before .before .before .before .before .before .before .before .before .before .before .before .before .before .before .before .before .before .before .package-exports-resolve in λ j h. exports-found _ _ _ _ j (resolvedOf (a .manifest .now) (a .dir .now) (a .subpath .now) _ (x .result)) (x .ensures .0 j (c .before .before .before .before .before .before .before .before .before .before .before .before .before .before .before .before .before .before .before .before .before .before .before .before .before .before .before .before .before .before .before .before .before .before .before .before .before .before .before .before .before .before .pre .0) (omega arith) h) _ _ (rw (c .before .before .before .before .before .before .before .before .before .before .before .before .before .before .before .before .before .before .before .before .before .before .first .ensures) at (c .before .before .before .before .before .before .before .before .before .before .before .before .before .before .before .before .before .before .before .exports-ending .ensures (seenBy (settingsOf (a .s .now)) (a .l .now)) (a .nums .now) (a .text .now) (a .m) (contextOf (a .manifest .now) (x .result .answer .context)))) (c .before .before .before .before .before .before .before .before .before .before .before .before .before .enum-told .given .1) (rw (c .before .before .before .before .before .before .before .before .before .before .before .before .before .before .before .before .before .before .before .before .before .before .first .ensures) at (c .before .before .before .before .before .before .before .before .resolve-in-context .ensures))))
+    (λ c. c .before .before .before .before .before .before .before .before .resolve-in-context .kept .1 .1 .1 .1 .1 .1 .1 .1 .1 .1 .0 ∙ c .before .before .before .before .before .before .before .before .before .before .before .before .before .before .before .before .before .before .before .exports-ending .kept .1 .1 .1 .1 .1 .1 .1 .1 .0 ∙ c .before .before .before .before .before .before .before .before .before .before .before .before .before .before .before .before .before .before .before .before .before .before .before .before .before .before .before .before .before .before .package-exports-resolve .ensures .1)
+    (λ c.
+    let s = c .before .before .before .before .before .before .before .before .before .before .before .before .before .before .before .before .before .before .before .before .before .before .before .before .before .before .before .before .before .before .before .before .before .before .before .before .before .before .before .before .before .before .before .before in
+    let a = s .args in
+    let x = c .before .before .before .before .before .before .before .before .before .before .before .before .before .before .before .before .before .before .before .before .before .before .before .before .before .before .before .before .before .before .package-exports-resolve in
+    let f = c .before .before .before .before .before .before .before .before .before .before .before .before .before .before .before .before .before .before .before .before .before .before .first .ensures in
+    λ j h. exports-found _ _ _ _ j (resolvedOf (a .manifest .now) (a .dir .now) (a .subpath .now) _ (x .result)) (x .ensures .0 j (s .pre .0) h) _ _ (rw f at (c .before .before .before .before .before .before .before .before .before .before .before .before .before .before .before .before .before .before .before .exports-ending .ensures (seenBy (settingsOf (a .s .now)) (a .l .now)) (a .nums .now) (a .text .now) (a .m) (contextOf (a .manifest .now) (x .result .answer .context)))) (c .before .before .before .before .before .before .before .before .before .before .before .before .before .enum-told .given .1) (rw f at (c .before .before .before .before .before .before .before .before .resolve-in-context .ensures))))
