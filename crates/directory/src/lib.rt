@@ -34,8 +34,7 @@ ghost use Rattle.directory.specs.Refusals.{roomIn, DoneUnless};
 pub fn manifest_ending(number: u8, dir: &[u8], result: &mut [u8]) -> Ending
     ensures { λ r. ⌜ FinishesIn number (limited (manifestOf (now (dir .entry)))) r (now (result .entry)) (now (result .exit)) ⌝ }
 {
-    let mut p = PathBuf::new();
-    p.len = path::manifest_path(dir, &mut p.bytes);
+    let p = PathBuf::from(dir).push(b"package.json");
     let n = p.len;
     if n > 2048 {
         return consults::refuse(42);
