@@ -19,13 +19,13 @@ use Rattle.package_json.specs.declared.Cursor.{Cursor}
 use Rattle.package_json.specs.declared.Cursor.the-variants.{At, Nothing as Done}
 use Rattle.exports.specs.declared.Kind.the-variants.{Scalar, String, Array, Object}
 use Rattle.exports.proofs.Places.{One, one, none-left, OneElement, one-of, no-element-left, array-depth, object-depth, equal-sym}
-use Rattle.exports.specs.declared.Outcome.{Outcome}
-use Rattle.exports.specs.declared.Outcome.the-variants.{Found, Nothing, Empty, InvalidTarget, NotExportedMatch, NotExported, ConfigMixed, ConfigDirectory, OverLong}
-use Rattle.exports.specs.declared.Context.{Context}
-use Rattle.exports.specs.declared.Answer.{Answer}
-use Rattle.exports.specs.Contexts.{contextOf}
-use Rattle.exports.specs.Answers.{outcomeIn, answerOf, resolved, isSome, isNothing, isFinal, isPassed}
-use Rattle.exports.proofs.Targets.{outcome-is}
+use Rattle.targets.specs.declared.Outcome.{Outcome}
+use Rattle.targets.specs.declared.Outcome.the-variants.{Found, Nothing, Empty, InvalidTarget, NotExportedMatch, NotExported, ConfigMixed, ConfigDirectory, OverLong}
+use Rattle.targets.specs.declared.Context.{Context}
+use Rattle.targets.specs.declared.Answer.{Answer}
+use Rattle.targets.specs.Contexts.{contextOf}
+use Rattle.targets.specs.Answers.{outcomeIn, answerOf}
+use Rattle.exports.specs.Answers.{isSome, isNothing, isFinal, isPassed}
 
 none : {P : Type 0} → ⊥ → P
 none z = absurd z

@@ -15,7 +15,7 @@ use Rattle.package_json.specs.declared.Cursor.the-variants.{At, Nothing as Done
 use Rattle.exports.proofs.Places.{One, one, none-left}
 use Rattle.exports.specs.declared.KeyMarks.{KeyMarks}
 use Rattle.exports.specs.declared.Best.{Best}
-use Rattle.exports.specs.Keys.{rankOf}
+use Rattle.targets.specs.Keys.{rankOf}
 use Rattle.exports.specs.Chosen.{aKey, joinedKeys, keysOf, Chosen, BestOf}
 
 -- the member at a cursor

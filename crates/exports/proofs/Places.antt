@@ -9,9 +9,9 @@ use lib.ListN.{length, drop}
 use lib.Dec.{eqb}
 use borrow.Author.Tests.{eq-eqb, ne-eqb, eqb-true, eqb-false}
 use Rattle.definition.specs.Text.{if_then_else_, equal}
-use Rattle.definition.specs.Json.{Json, scalar, str, arr, obj, Elements, noElement, element, Members, noMember, member, Read, got, fault, value, valueBy, quoted}
+use Rattle.definition.specs.Json.{Json, scalar, str, arr, obj, Elements, noElement, element, Members, noMember, member, Read, got, value, valueBy, quoted}
 use Rattle.definition.specs.JsonAt as json
-use Rattle.definition.specs.JsonAt.{aScalar, aString, anArray, anObject, kindAt, thenAt, firstMember, firstElement, nextElement, memberValue, nextMember, getAt, findMember, isText, nameIs, textAt, toldAt}
+use Rattle.definition.specs.JsonAt.{aScalar, aString, anArray, anObject, kindAt, thenAt, firstMember, firstElement, nextElement, memberValue, nextMember, getAt, findMember, isText, nameIs, textAt}
 use Rattle.laws.specs.JsonAtLaws as at
 use Rattle.laws.specs.JsonAtLaws.{members-there, no-members, elements-there, no-elements, text-shape, array-shape, object-shape, scalar-shape, finds, finds-none}
 use Rattle.laws.specs.JsonSoundLaws.{quoted-sound}
@@ -25,7 +25,8 @@ use Rattle.package_json.specs.Cursors.{placed}
 use Rattle.json_text.specs.Texts.{textOf, told, orEmpty}
 use Rattle.exports.specs.declared.Kind.{Kind}
 use Rattle.exports.specs.declared.Kind.the-variants.{Scalar, String, Array, Object}
-use Rattle.exports.specs.Contexts.{readText, stringAt}
+use Rattle.targets.specs.Contexts.{readText, stringAt}
+use Rattle.targets.proofs.Contexts.{text-read}
 use Rattle.exports.specs.Places.{Stands, MembersAt, ElementsAt, MembersFrom, ElementsFrom, kindOf, Finds}
 
 none-of : {P : Type 0} → ⊥ → P
@@ -146,22 +147,7 @@ module _ (m : List ℕ) (i : ℕ) (r : kind.Kind) (e : cursors.kindOf r ≡ kind
   pub kind-none : cursors.kindOf r ≡ none → (d : ℕ) (j : Json) → Stands m d i j → Scalar ≡ kindOf j
   kind-none f d j h = none-of (let g = at.kind-here (h .here) in let z : _≡_ {A = ℕ} 0 1 = cc in omega arith)
 
--- the text of a string, wherever one stands or none
-pub string-short : (m : List ℕ) (i : ℕ) → length (stringAt m i) ≤ 1024
-string-short m i = by (quoted (drop i m)) refl
-  where
-    by : (r : Read (List ℕ)) → quoted (drop i m) ≡ r → length (readText r) ≤ 1024
-    by (got t r) e = quoted-sound (drop i m) t r e .fits
-    by (fault f) e = omega arith
-
-pub text-read : (s w : List ℕ) → 1024 ≤ length w → orEmpty (textAt s w .text) ≡ readText (quoted s)
-unfolding textAt toldAt
-text-read s w l = by (quoted s) refl
-  where
-    by : (r : Read (List ℕ)) → quoted s ≡ r → orEmpty (textAt s w .text) ≡ readText r
-    by (got t r) e = ap orEmpty (at.text-told s w t r l e)
-    by (fault f) e = rw e
-
+-- the text of a string
 module _ {m : List ℕ} {d i : ℕ} {s : List ℕ} (h : Stands m d i (str s)) where
   pub text-short : length s ≤ 1024
   text-short = quoted-sound (drop i m) s (h .here .rest) (at.text-here (h .here)) .fits

@@ -16,19 +16,20 @@ use Rattle.exports.specs.Places.{Stands, Finds, kindOf}
 use Rattle.package_json.specs.declared.Cursor.{Cursor}
 use Rattle.package_json.specs.declared.Cursor.the-variants.{At as FoundAt, Nothing as NotFound}
 use Rattle.exports.specs.declared.Kind.the-variants.{Scalar, String, Array, Object}
-use Rattle.exports.specs.declared.Context.{Context}
-use Rattle.exports.specs.declared.Form.{Form}
-use Rattle.exports.specs.declared.Form.the-variants.{Plain, Starred, Folder}
-use Rattle.exports.specs.declared.Match.the-variants.{Part}
-use Rattle.exports.specs.declared.Outcome.{Outcome}
-use Rattle.exports.specs.declared.Answer.{Answer}
+use Rattle.targets.specs.declared.Context.{Context}
+use Rattle.targets.specs.declared.Form.{Form}
+use Rattle.targets.specs.declared.Form.the-variants.{Plain, Starred, Folder}
+use Rattle.targets.specs.declared.Match.the-variants.{Part}
+use Rattle.targets.specs.declared.Outcome.{Outcome}
+use Rattle.targets.specs.declared.Answer.{Answer}
 use Rattle.exports.specs.declared.Best.{Best}
 use Rattle.exports.specs.declared.Key.{Key}
 use Rattle.exports.specs.declared.Key.the-variants.{Subpath, At}
 use Rattle.exports.specs.declared.Resolved.{Resolved}
-use Rattle.exports.specs.Keys.{matchOf}
-use Rattle.exports.specs.Contexts.{readText, contextOf}
-use Rattle.exports.specs.Answers.{outcomeIn, answerOf, Formed, Requested, isNothing}
+use Rattle.targets.specs.Keys.{matchOf}
+use Rattle.targets.specs.Contexts.{readText, contextOf}
+use Rattle.targets.specs.Answers.{outcomeIn, answerOf, Formed}
+use Rattle.exports.specs.Answers.{Requested, isNothing}
 use Rattle.exports.specs.Chosen.{Chosen, BestOf, formOf, keyText, resolvedOf, dotRequest, keysOrNot, IsWhole}
 use Rattle.exports.proofs.Loops.{nothingYet, go-stop, go-on}
 

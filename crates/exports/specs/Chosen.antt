@@ -10,16 +10,16 @@ use Rattle.definition.specs.Json.{Json, scalar, str, arr, obj, got, quoted}
 use Rattle.definition.specs.Exports as exports
 use Rattle.definition.specs.Exports.{Entry, anyKey, isDotKey, isSubpathKey, patternMatch, Request, orGoOn, keyResolve, pathNotExported}
 use Rattle.exports.specs.Places.{Stands}
-use Rattle.exports.specs.declared.Form.{Form}
-use Rattle.exports.specs.declared.Form.the-variants.{Starred, Folder}
+use Rattle.targets.specs.declared.Form.{Form}
+use Rattle.targets.specs.declared.Form.the-variants.{Starred, Folder}
 use Rattle.exports.specs.declared.KeyMarks.{KeyMarks}
 use Rattle.exports.specs.declared.Best.{Best}
 use Rattle.exports.specs.declared.Key.{Key}
 use Rattle.exports.specs.declared.Key.the-variants.{Dot, Subpath, At}
 use Rattle.exports.specs.declared.Resolved.{Resolved}
-use Rattle.exports.specs.Keys.{rankOf, matchOf}
-use Rattle.exports.specs.Contexts.{stringAt, contextOf}
-use Rattle.exports.specs.Answers.{outcomeIn}
+use Rattle.targets.specs.Keys.{rankOf, matchOf}
+use Rattle.targets.specs.Contexts.{stringAt, contextOf}
+use Rattle.targets.specs.Answers.{outcomeIn}
 
 -- what one key begins with, and the keys of some members
 abbrev pub aKey : List ℕ → KeyMarks

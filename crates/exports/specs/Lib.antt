@@ -1,5 +1,3 @@
 pub mod Places
-pub mod Keys
-pub mod Contexts
 pub mod Answers
 pub mod Chosen

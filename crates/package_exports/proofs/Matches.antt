@@ -25,9 +25,9 @@ use Rattle.package_json.specs.declared.Cursor.{Cursor}
 use Rattle.package_json.specs.declared.Cursor.the-variants.{At, Nothing}
 use Rattle.package_json.specs.Cursors.{placed}
 use Rattle.exports.specs.Chosen as chosen
-use Rattle.exports.specs.declared.Part.{Part}
-use Rattle.exports.specs.Contexts.{partText}
-use Rattle.exports.proofs.Contexts.{first-text, part-short}
+use Rattle.targets.specs.declared.Part.{Part}
+use Rattle.targets.specs.Contexts.{partText}
+use Rattle.targets.proofs.Contexts.{first-text, part-short}
 use Rattle.consults.specs.declared.Ending.{Ending}
 use Rattle.consults.specs.declared.Mark.{Mark}
 use Rattle.consults.specs.declared.Way.{Way}

@@ -5,13 +5,13 @@ use consults::Out;
 use consults::Way;
 use directory::Package;
 use exports::Key;
-use exports::Match;
-use exports::Outcome;
 use package_json::Cursor;
 use package_json::TextAt;
 use path::PathBuf;
 use settings::Kind;
 use specifier::Stripped;
+use targets::Match;
+use targets::Outcome;
 ghost use mathlib.Core.List.{List, []};
 ghost use Prim.Native.Nat.{ℕ, _≤_};
 ghost use lib.ListN.{length, drop};
@@ -25,9 +25,9 @@ ghost use Rattle.definition.specs.Manifest.{firstField, resolvedTo, manifestVie
 ghost use Rattle.definition.specs.Called.{seenBy};
 ghost use Rattle.definition.specs.Walk.{given, never, RESOLVE-ESM-MATCH, byExports, LOAD-PACKAGE-EXPORTS, inScope, LOAD-PACKAGE-SELF};
 ghost use Rattle.package_json.specs.Cursors.{placed};
-ghost use Rattle.exports.specs.Keys.{matchOf};
-ghost use Rattle.exports.specs.Contexts.{partText};
-ghost use Rattle.exports.specs.Answers.{outcomeIn};
+ghost use Rattle.targets.specs.Keys.{matchOf};
+ghost use Rattle.targets.specs.Contexts.{partText};
+ghost use Rattle.targets.specs.Answers.{outcomeIn};
 ghost use Rattle.exports.specs.Chosen.{keyText};
 ghost use Rattle.consults.specs.Tape.{Done};
 ghost use Rattle.consults.specs.Meaning.{tapeOf, stepOf, place, Sees};
@@ -202,7 +202,7 @@ fn resolve_with_texts(
     spec: &[u8],
     path: &[u8],
     manifest: &[u8],
-    context: exports::Context,
+    context: targets::Context,
     result: &mut [u8],
     nums: &mut [u32],
     text: &mut [u8],
@@ -213,9 +213,9 @@ fn resolve_with_texts(
     ensures { λ r. ⌜ Done (seenBy (settingsOf (now (s .entry))) (now (l .entry))) (never (RESOLVE-ESM-MATCH (settingsOf (now (s .entry))) (now (spec .entry)) (place (now (path .entry)) (partText (now (manifest .entry)) (context .query)) (partText (now (manifest .entry)) (context .fragment))))) (tapeOf (now (result .entry)) (now (nums .entry)) (now (text .entry)) m) (tapeOf (now (result .exit)) (now (nums .exit)) (now (text .exit)) (r .mark)) (stepOf (r .way)) ⌝ }
 {
     let mut query = [0u8; 1024];
-    let q = exports::part_text(manifest, context.query, &mut query);
+    let q = targets::part_text(manifest, context.query, &mut query);
     let mut fragment = [0u8; 1024];
-    let f = exports::part_text(manifest, context.fragment, &mut fragment);
+    let f = targets::part_text(manifest, context.fragment, &mut fragment);
     resolve_esm_match(
         l,
         s,
@@ -238,7 +238,7 @@ fn resolve_in_context(
     spec: &[u8],
     path: &[u8],
     manifest: &[u8],
-    context: exports::Context,
+    context: targets::Context,
     result: &mut [u8],
     nums: &mut [u32],
     text: &mut [u8],
@@ -288,15 +288,7 @@ fn resolve_exports(
     ensures { λ r. ⌜ ((j : Json) → Stands 15 (drop at (now (manifest .entry))) j → Done (seenBy (settingsOf (now (s .entry))) (now (l .entry))) (matchExports (settingsOf (now (s .entry))) (now (spec .entry)) (now (dir .entry)) (now (subpath .entry)) j) (tapeOf (now (result .entry)) (now (nums .entry)) (now (text .entry)) m) (tapeOf (now (result .exit)) (now (nums .exit)) (now (text .exit)) (r .mark)) (stepOf (r .way))) ⌝ }
 {
     let mut path = PathBuf::new();
-    let r = exports::package_exports_resolve(
-        manifest,
-        at,
-        s,
-        dir,
-        subpath,
-        work,
-        &mut path.bytes,
-    );
+    let r = exports::package_exports_resolve(manifest, at, s, dir, subpath, work, &mut path.bytes);
     let key = r.key;
     let matched = r.matched;
     let a = r.answer;

@@ -9,10 +9,10 @@ use lib.ListN.{length}
 use Rattle.definition.specs.Json.{Json}
 use Rattle.definition.specs.Exports.{Request, PACKAGE-TARGET-RESOLVE}
 use Rattle.exports.specs.Places.{Stands}
-use Rattle.exports.specs.declared.Outcome.the-variants.{Nothing, NotExportedMatch}
-use Rattle.exports.specs.Contexts.{contextOf}
+use Rattle.targets.specs.declared.Outcome.the-variants.{Nothing, NotExportedMatch}
+use Rattle.targets.specs.Contexts.{contextOf}
 use Rattle.exports.specs.Answers.{Requested}
-use Rattle.exports.proofs.Targets.{outcome-is}
+use Rattle.targets.proofs.Targets.{outcome-is}
 use Rattle.exports.proofs.Loops.{ArrayLeft, ObjectLeft, resolve-scalar, text-leaf, array-shallow, object-shallow, array-nil, array-start, object-start, array-done, array-over, array-stop, array-on, object-done, object-over, object-skip, object-stop, object-on}
 use Prim.Native.Nat.{ℕ, _<_}
 use borrow.Fn.Kinds.{In}
@@ -30,7 +30,7 @@ use Rattle.exports.proofs.kind_at.Reads as kind-at-reads
 use Rattle.exports.proofs.members_of.Reads as members-of-reads
 use Rattle.exports.proofs.next_element.Reads as next-element-reads
 use Rattle.exports.proofs.string_target.Reads as string-target-reads
-use Rattle.exports.proofs.without_path.Reads as without-path-reads
+use Rattle.targets.proofs.without_path.Reads as without-path-reads
 use Rattle.exports.proofs.+package_target_resolve.{statement}
 use Rattle.exports.proofs.+package_target_resolve.Tie.{close}
 

@@ -2,8 +2,8 @@ use borrow.Author.Needs.{needs}
 use mathlib.Core.Path.{sym, _∙_}
 use borrow.Author.Tests.{not-true, not-false}
 use Rattle.definition.specs.Settings.{textsOf}
-use Rattle.exports.specs.declared.Outcome.the-variants.{NotExported}
-use Rattle.exports.specs.Contexts.{contextOf}
+use Rattle.targets.specs.declared.Outcome.the-variants.{NotExported}
+use Rattle.targets.specs.Contexts.{contextOf}
 use Rattle.exports.proofs.Resolutions.{subpath-is, keys-stop, keys-on}
 use Rattle.exports.proofs.keys_resolve.Statement.{statement}
 use Rattle.exports.proofs.keys_resolve.Tie as tie

@@ -4,10 +4,10 @@ use Rattle.definition.specs.Text.{text}
 use Rattle.definition.specs.Json.{obj}
 use Rattle.definition.specs.Settings.{textsOf}
 use Rattle.definition.specs.Exports.{entries, get, PACKAGE-TARGET-RESOLVE}
-use Rattle.exports.specs.declared.Outcome.the-variants.{Nothing}
+use Rattle.targets.specs.declared.Outcome.the-variants.{Nothing}
 use Rattle.exports.specs.Chosen.{fresh, dotRequest}
 use Rattle.exports.proofs.Loops.{nothingYet}
-use Rattle.exports.proofs.Targets.{outcome-is}
+use Rattle.targets.proofs.Targets.{outcome-is}
 use Rattle.exports.proofs.Resolutions.{finds-some, finds-none, dot-asked, main-dot, main-none, main-whole}
 use Rattle.exports.proofs.main_resolve.Statement.{statement}
 use Rattle.exports.proofs.main_resolve.Tie as tie

@@ -7,7 +7,7 @@ use Rattle.definition.specs.Path.{manifestOf}
 use Rattle.definition.specs.Json.{obj}
 use Rattle.definition.specs.Settings.{textsOf}
 use Rattle.definition.specs.Exports.{failed, InvalidPackageConfig}
-use Rattle.exports.specs.declared.Outcome.the-variants.{ConfigMixed}
+use Rattle.targets.specs.declared.Outcome.the-variants.{ConfigMixed}
 use Rattle.exports.specs.declared.KeyMarks.{KeyMarks}
 use Rattle.exports.specs.Chosen.{fresh, keysOrNot}
 use Rattle.exports.proofs.Resolutions.{subpath-is, object-mixed, object-other, main-stop, main-on}

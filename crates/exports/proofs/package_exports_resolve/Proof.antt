@@ -3,7 +3,7 @@ use borrow.Author.Needs.{needs}
 use mathlib.Core.Path.{refl, sym, _∙_, ap}
 use Rattle.definition.specs.Settings.{textsOf, settingsOf}
 use Rattle.definition.specs.Exports.{pathNotExported}
-use Rattle.exports.specs.declared.Outcome.the-variants.{NotExported}
+use Rattle.targets.specs.declared.Outcome.the-variants.{NotExported}
 use Rattle.exports.specs.Chosen.{fresh}
 use Rattle.exports.proofs.Loops.{is-object}
 use Rattle.exports.proofs.Resolutions.{subpath-is, exports-scalar, whole-string, whole-array}

@@ -3,8 +3,8 @@ use mathlib.Core.Path.{sym, _∙_}
 use mathlib.Core.Option.{none}
 use Rattle.definition.specs.Settings.{textsOf}
 use Rattle.definition.specs.Exports.{entries, literal}
-use Rattle.exports.specs.declared.Outcome.the-variants.{Nothing}
-use Rattle.exports.specs.Contexts.{contextOf}
+use Rattle.targets.specs.declared.Outcome.the-variants.{Nothing}
+use Rattle.targets.specs.Contexts.{contextOf}
 use Rattle.exports.proofs.Resolutions.{subpath-is, finds-some, finds-none, key-asked, imports-slash, imports-literal, imports-pattern}
 use Rattle.exports.proofs.package_imports_exports_resolve.Statement.{statement}
 use Rattle.exports.proofs.package_imports_exports_resolve.Tie as tie

@@ -6,8 +6,8 @@ use lib.ListN.{drop, take}
 use borrow.Author.Tests.{not-true, not-false}
 use Rattle.definition.specs.Settings.{textsOf}
 use Rattle.definition.specs.Exports.{entries, best}
-use Rattle.exports.specs.declared.Outcome.the-variants.{Nothing}
-use Rattle.exports.specs.Contexts.{contextOf}
+use Rattle.targets.specs.declared.Outcome.the-variants.{Nothing}
+use Rattle.targets.specs.Contexts.{contextOf}
 use Rattle.exports.specs.Chosen.{formOf}
 use Rattle.exports.proofs.Resolutions.{subpath-is, best-none, best-some, pattern-none, pattern-some, patternRequest, requested-by, chosen-asked, chosen-key}
 use Rattle.exports.proofs.pattern_resolve.Statement.{statement}

@@ -2,7 +2,7 @@ use borrow.Author.Needs.{needs}
 use mathlib.Core.Path.{sym, _∙_, ap}
 use Rattle.definition.specs.Specifier.{parseSpecifier}
 use Rattle.definition.specs.Exports.{stringTarget}
-use Rattle.exports.specs.Contexts.{contextOf}
+use Rattle.targets.specs.Contexts.{contextOf}
 use Rattle.exports.proofs.Places.{text-short, text-target, string-is}
 use Rattle.exports.proofs.string_target.Statement.{statement}
 use Rattle.exports.proofs.string_target.Tie as tie

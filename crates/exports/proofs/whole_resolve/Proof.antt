@@ -3,7 +3,7 @@ use mathlib.Core.Path.{sym, _∙_, ap}
 use borrow.Author.Tests.{not-true, not-false}
 use Rattle.definition.specs.Settings.{textsOf}
 use Rattle.definition.specs.Exports.{pathNotExported, PACKAGE-TARGET-RESOLVE}
-use Rattle.exports.specs.declared.Outcome.the-variants.{NotExported}
+use Rattle.targets.specs.declared.Outcome.the-variants.{NotExported}
 use Rattle.exports.specs.Chosen.{fresh, dotRequest}
 use Rattle.exports.proofs.Resolutions.{subpath-is, dot-asked, whole-other, whole-stop, whole-on}
 use Rattle.exports.proofs.whole_resolve.Statement.{statement}

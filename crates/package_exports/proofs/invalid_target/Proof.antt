@@ -1,7 +1,7 @@
 use mathlib.Core.Path.{_∙_, ap}
 use Rattle.json_text.specs.Texts.{orEmpty}
 use Rattle.directory.proofs.Manifests.{manifest-path}
-use Rattle.exports.proofs.Places.{text-read}
+use Rattle.targets.proofs.Contexts.{text-read}
 use borrow.Author.Needs.{needs}
 use Rattle.package_exports.proofs.invalid_target.Statement.{statement}
 use Rattle.package_exports.proofs.invalid_target.Tie as tie

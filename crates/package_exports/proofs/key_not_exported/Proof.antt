@@ -1,6 +1,6 @@
 use mathlib.Core.Path.{_∙_, ap}
 use Rattle.json_text.specs.Texts.{orEmpty}
-use Rattle.exports.proofs.Places.{text-read}
+use Rattle.targets.proofs.Contexts.{text-read}
 use borrow.Author.Needs.{needs}
 use Rattle.package_exports.proofs.key_not_exported.Statement.{statement}
 use Rattle.package_exports.proofs.key_not_exported.Tie as tie

@@ -2,7 +2,7 @@ use mathlib.Core.Path.{_∙_}
 use native.Mathlib.Omega.{arith}
 use Rattle.definition.specs.Settings.{settingsOf}
 use Rattle.definition.specs.Called.{seenBy}
-use Rattle.exports.specs.Contexts.{contextOf}
+use Rattle.targets.specs.Contexts.{contextOf}
 use Rattle.exports.specs.Chosen.{resolvedOf}
 use Rattle.package_exports.proofs.Matches.{exports-ended, exports-found}
 use borrow.Author.Needs.{needs}

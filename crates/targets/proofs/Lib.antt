@@ -1,0 +1,5 @@
+pub mod Keys
+pub mod Contexts
+pub mod Stars
+pub mod Targets
+pub mod Parsing
