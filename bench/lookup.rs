@@ -22,6 +22,7 @@ mod product;
 #[cfg(rust)]
 #[path = "../compare/src/rust.rs"]
 mod rust;
+mod stack;
 mod trees;
 
 use product::{Left, Question, Rooms};
@@ -189,11 +190,23 @@ fn lists() {
     }
 }
 
+fn stacks() {
+    // A second member takes the reader of manifests deeper than a first.
+    let (object, array) = (("{\"a\":0,\"import\":", "}"), ("[", "]"));
+    let deepest = [("objects", [object, object]), ("arrays", [array, array]), ("both by turns", [object, array])];
+    let jobs = deepest.map(|(name, around)| trees::nested(name, around));
+    println!("\nstack, in bytes:");
+    for job in [trees::printed()].iter().chain(&jobs) {
+        println!("{:>7}  {}", stack::used(job), job.name);
+    }
+}
+
 fn main() {
     println!("{}\n", if cfg!(rust) { "Beside the Rust." } else { "The Rust is not at hand: the product alone." });
     let jobs: Vec<Job> = [trees::printed(), trees::realistic()].into_iter().chain([10, 100, 300, 1_000].map(trees::sized)).collect();
     let figures = compare(&jobs);
     lists();
+    stacks();
     let (_, answers) = examine(&jobs[1]);
     println!("\nanswers 0 to 7 of the realistic tree's questions: {answers:?}");
     if let Some(file) = std::env::args().nth(1) {

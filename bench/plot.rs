@@ -25,13 +25,13 @@ fn x(entries: f64) -> f64 {
     LEFT + (entries.log10() - 1.0) / 2.0 * (WIDTH - LEFT - RIGHT)
 }
 
-/// From 100 ns at the bottom to 1 ms at the top.
+/// From 100 ns at the bottom to 100 µs at the top.
 fn y(ns: f64) -> f64 {
-    HEIGHT - BOTTOM - (ns.max(100.0).log10() - 2.0) / 4.0 * (HEIGHT - TOP - BOTTOM)
+    HEIGHT - BOTTOM - (ns.clamp(1e2, 1e5).log10() - 2.0) / 3.0 * (HEIGHT - TOP - BOTTOM)
 }
 
 fn axes(out: &mut String) {
-    for (ns, words) in [(1e2, "100 ns"), (1e3, "1 µs"), (1e4, "10 µs"), (1e5, "100 µs"), (1e6, "1 ms")] {
+    for (ns, words) in [(1e2, "100 ns"), (1e3, "1 µs"), (1e4, "10 µs"), (1e5, "100 µs")] {
         let (at, end) = (y(ns), WIDTH - RIGHT);
         let _ = writeln!(out, "<line x1=\"{LEFT}\" y1=\"{at:.1}\" x2=\"{end}\" y2=\"{at:.1}\" stroke=\"#ddd\"/>");
         let _ = writeln!(out, "<text x=\"{}\" y=\"{:.1}\" text-anchor=\"end\">{words}</text>", LEFT - 8.0, at + 4.0);

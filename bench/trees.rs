@@ -34,6 +34,19 @@ pub fn printed() -> Job {
     Job { name: "printed example".into(), tree, settings, questions: vec![("/p".into(), "mat/steel".into())] }
 }
 
+/// A target 16 brackets deep, the deepest that a manifest may have: what is put around it by turns, from the inside.
+pub fn nested(name: &str, around: [(&str, &str); 2]) -> Job {
+    let mut target = r#""./x.js""#.to_string();
+    for level in 0..14 {
+        let (open, close) = around[level % 2];
+        target = format!("{open}{target}{close}");
+    }
+    let mut tree = Tree::new();
+    file(&mut tree, "/p/node_modules/mat/x.js");
+    add(&mut tree, "/p/node_modules/mat/package.json", Some(format!(r#"{{"exports":{{".":{target}}}}}"#)));
+    Job { name: name.into(), tree, questions: vec![("/p".into(), "mat".into())], ..printed() }
+}
+
 // ---------------------------------------------------------------- a job as designers bring them
 
 #[rustfmt::skip]

@@ -191,7 +191,7 @@ fn push_parts(b: &mut [u8; 2048], from: usize, sub: &[u8]) -> usize
 }
 
 // The functions below write the path that they build to the bytes of a `PathBuf`, so that nothing is copied, and answer its length: one over 2,048
-// where the path is over-long.
+// where the path is over-long. The bytes behind the path are free.
 
 // A directory's manifest.
 pub fn manifest_path(dir: &[u8], out: &mut [u8; 2048]) -> usize
