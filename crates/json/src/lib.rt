@@ -495,8 +495,8 @@ fn array(m: &[u8], at: usize, depth: usize) -> Scan
     extra_element(m, i)
 }
 
-// An object behind its bracket. The name of its first member repeats none, so that only a second one needs the tables: to clear them
-// costs more than to read a small object.
+// An object behind its bracket. The name of its first member repeats none, so that only a second one needs the tables, which have to be
+// filled with zeros.
 fn object(m: &[u8], at: usize, depth: usize) -> Scan
     ensures { λ r. ⌜ Reads (now (m .entry)) (objectOf (valueOf depth) (skipSpace (drop at (now (m .entry))))) r ⌝ }
 {
