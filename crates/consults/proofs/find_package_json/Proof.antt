@@ -1,5 +1,5 @@
 -- The loop's invariant: whatever finishes the search from the directory in hand finishes it from where the loop began.
-use mathlib.Core.Path.{_≡_, refl, sym, _∙_, ap}
+use mathlib.Core.Path.{_≡_, refl, _∙_, ap}
 use Prim.Native.Nat.{ℕ}
 use mathlib.Core.List.{List}
 use native.Mathlib.Omega.{arith}
@@ -7,7 +7,7 @@ use lib.ListN.{length}
 use Rattle.definition.specs.Path.{parent}
 use Rattle.definition.specs.Settings.{Settings}
 use Rattle.definition.specs.Called.{seenBy}
-use Rattle.consults.specs.Meaning.{tapeOf, readOf}
+use Rattle.consults.specs.Meaning.{tapeOf}
 use Rattle.consults.proofs.Climbs.{Climbing, climbing-start, climbing-more, climbing-none, climbing-found, climbing-stop}
 use borrow.Author.Needs.{needs}
 use Rattle.consults.proofs.find_package_json.Statement.{statement}

@@ -1,4 +1,3 @@
-use mathlib.Core.Path.{_∙_}
 use Rattle.consults.proofs.Climbs.{done-opened, manifest-long, manifest-fits}
 use borrow.Author.Needs.{needs}
 use Rattle.consults.proofs.read_manifest.Statement.{statement}
