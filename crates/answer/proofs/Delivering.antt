@@ -14,8 +14,8 @@ use Rattle.definition.specs.Called.{Rooms, Left, joined, paths, listNumbers, ze
 use Rattle.consults.specs.Tape.{endingOf}
 use Rattle.consults.specs.declared.Ending.{Ending}
 use Rattle.consults.specs.declared.Mark.{Mark}
-use Rattle.listing.specs.declared.Checked.{Checked}
-use Rattle.listing.specs.declared.Checked.the-variants.{Accepted, Refused}
+use Rattle.listing_check.specs.declared.Checked.{Checked}
+use Rattle.listing_check.specs.declared.Checked.the-variants.{Accepted, Refused}
 use Rattle.answer.specs.Meaning.{refusalBy}
 use Rattle.answer.specs.Walked.{textLength, numbersLength, Counted}
 use Rattle.answer.proofs.Endings.{length-of}

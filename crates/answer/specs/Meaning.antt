@@ -4,8 +4,8 @@ use mathlib.Core.Option.{Option, none, some}
 use Prim.Native.Nat.{ℕ, _+_, _*_, _/_, _%_}
 use lib.ListN.{length, take, drop}
 use Rattle.definition.specs.Called.{Question, Rooms, Left, padded}
-use Rattle.listing.specs.declared.Checked.{Checked}
-use Rattle.listing.specs.declared.Checked.the-variants as InListing
+use Rattle.listing_check.specs.declared.Checked.{Checked}
+use Rattle.listing_check.specs.declared.Checked.the-variants as InCheck
 use Rattle.answer.specs.declared.Answer.{Answer}
 use Rattle.answer.specs.declared.Answer.the-variants.{Found, NotFound, Empty, InvalidPackageTarget, PackagePathNotExported, InvalidPackageConfig, InvalidPackageConfigDirectory, Json, Refused}
 
@@ -51,8 +51,8 @@ leftBy a result numbers list work = record {
 
 -- the checks before the lookup and behind it
 abbrev pub refusalBy : Checked → Option ℕ
-refusalBy InListing.Accepted = none
-refusalBy (InListing.Refused n) = some n
+refusalBy InCheck.Accepted = none
+refusalBy (InCheck.Refused n) = some n
 
 -- the list numbers once each of count packed numbers, from the third on, is a length and, count further on, a state
 unfoldable pub spread : ℕ → List ℕ → List ℕ

@@ -1,7 +1,7 @@
 // What a call answers and leaves in the lent buffers: the answer's cases, the refusals behind the lookup, and zeros.
 use consults::Ending;
 use consults::Mark;
-use listing::Checked;
+use listing_check::Checked;
 ghost use mathlib.Core.Path.{_≡_};
 ghost use mathlib.Core.Bool.{true};
 ghost use mathlib.Core.List.{List, [], _∷_, map};

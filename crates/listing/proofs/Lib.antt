@@ -1,4 +1,2 @@
 mod Seek
-mod Names
-mod Steps
-mod Order
+mod Partings

@@ -2,8 +2,8 @@
 // A listing is written as lines: d or f, a path, and for a file with contents "=" and the contents.
 ghost use Prim.Native.Nat.{_<_};
 use libc::STDOUT_FILENO;
-use listing::Checked;
 use listing::Found;
+use listing_check::Checked;
 
 // The group's name, and how many of its cases are as expected; or after how many one was not.
 fn report(name: &[u8], got: usize, wanted: usize) {
@@ -130,7 +130,7 @@ fn number_of(l: &[u8], end: usize) -> u8 {
     if end > l.len() {
         return 1;
     }
-    let c = listing::check(&l[0..end]);
+    let c = listing_check::check(&l[0..end]);
     match c {
         Checked::Accepted => 0,
         Checked::Refused(n) => n,

@@ -10,9 +10,9 @@ use Rattle.definition.specs.Specifier.{isSpecifier}
 use Rattle.definition.specs.Listing.{isDirectoryOf, passes30, passes31, passes32}
 use Rattle.definition.specs.Settings.{passes24}
 use Rattle.definition.specs.Called.{Question, Rooms, check, refusalOf}
-use Rattle.listing.specs.declared.Checked.{Checked}
-use Rattle.listing.specs.declared.Checked.the-variants.{Accepted, Refused}
-use Rattle.listing.specs.Meaning.{verdict}
+use Rattle.listing_check.specs.declared.Checked.{Checked}
+use Rattle.listing_check.specs.declared.Checked.the-variants.{Accepted, Refused}
+use Rattle.listing_check.specs.Meaning.{verdict}
 use Rattle.answer.specs.Meaning.{refusalBy}
 
 abbrev orElse : Checked → Option ℕ → Option ℕ

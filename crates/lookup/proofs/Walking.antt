@@ -24,8 +24,8 @@ use Rattle.consults.specs.Tape.{Tape, written, ended, after, endingOf, numbered
 use Rattle.consults.specs.Meaning.{tapeOf}
 use Rattle.consults.specs.declared.Ending.{Ending}
 use Rattle.consults.specs.declared.Mark.{Mark}
-use Rattle.listing.specs.declared.Checked.{Checked}
-use Rattle.listing.specs.declared.Checked.the-variants.{Accepted}
+use Rattle.listing_check.specs.declared.Checked.{Checked}
+use Rattle.listing_check.specs.declared.Checked.the-variants.{Accepted}
 use Rattle.answer.specs.Meaning.{roomsOf, refusalBy}
 use Rattle.answer.specs.Walked.{packedOf, Small, Walked}
 use Rattle.answer.proofs.Endings.{length-of}

@@ -1,6 +1,6 @@
 // The entry point: the checks in document 01's order, the lookup, and what it leaves in the lent buffers.
 use answer::Answer;
-use listing::Checked;
+use listing_check::Checked;
 ghost use mathlib.Core.Path.{_≡_};
 ghost use lib.ListN.{length, replicate};
 ghost use Rattle.definition.specs.Called.{Rooms, refusalOf, called};
@@ -17,7 +17,7 @@ fn check(listing: &[u8], settings: &[u8], start: &[u8], specifier: &[u8], work: 
     if !settings::check(settings) {
         return Checked::Refused(24);
     }
-    let checked = listing::check(listing);
+    let checked = listing_check::check(listing);
     let Checked::Accepted = checked else {
         return checked;
     };

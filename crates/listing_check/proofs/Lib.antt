@@ -1,0 +1,3 @@
+mod Rises
+mod Steps
+mod Order
