@@ -21,7 +21,7 @@ fn check(listing: &[u8], settings: &[u8], start: &[u8], specifier: &[u8], work: 
     let Checked::Accepted = checked else {
         return checked;
     };
-    if !specifier::check(specifier) {
+    if !package_name::check(specifier) {
         return Checked::Refused(22);
     }
     if !listing::is_directory(listing, start) {

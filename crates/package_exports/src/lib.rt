@@ -7,9 +7,9 @@ use directory::Package;
 use exports::Key;
 use package_json::Cursor;
 use package_json::TextAt;
+use package_name::Stripped;
 use path::PathBuf;
 use settings::Kind;
-use specifier::Stripped;
 use targets::Match;
 use targets::Outcome;
 ghost use mathlib.Core.List.{List, []};
@@ -349,7 +349,7 @@ fn by_exports(
         return consults::next(m);
     };
     let mut dotted = [0u8; 2049];
-    let n = specifier::dot_subpath(sub, &mut dotted);
+    let n = package_name::dot_subpath(sub, &mut dotted);
     resolve_exports(
         l,
         s,
@@ -441,7 +441,7 @@ fn in_scope(
     let t = directory::text_field(manifest, root, b"name", work);
     let TextAt::Nothing = t else {
         let name = package_json::text_at(manifest, work, t);
-        let stripped = specifier::strip_package_name(spec, name);
+        let stripped = package_name::strip_package_name(spec, name);
         let Stripped::At(n) = stripped else {
             return consults::next(m);
         };

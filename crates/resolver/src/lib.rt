@@ -345,8 +345,8 @@ fn load_node_modules(
     requires { ⌜ (1024 ≤ length (now work)) × (length (now spec) ≤ 2048) ⌝ }
     ensures { λ r. ⌜ Done (seenBy (settingsOf (now (s .entry))) (now (l .entry))) (LOAD-NODE-MODULES (settingsOf (now (s .entry))) (now (start .entry)) (now (spec .entry))) (tapeOf (now (result .entry)) (now (nums .entry)) (now (text .entry)) m) (tapeOf (now (result .exit)) (now (nums .exit)) (now (text .exit)) (r .mark)) (stepOf (r .way)) ⌝ }
 {
-    let name = specifier::package_name(spec);
-    let sub = specifier::package_subpath(spec);
+    let name = package_name::package_name(spec);
+    let sub = package_name::package_subpath(spec);
     let mut mark = m;
     let mut names: usize = 0;
     let out = 'climb: loop {
@@ -386,14 +386,14 @@ fn load_climbing(
     requires { ⌜ (1024 ≤ length (now work)) × (length (now spec) ≤ 512) ⌝ }
     ensures { λ r. ⌜ Done (seenBy (settingsOf (now (s .entry))) (now (l .entry))) (perhaps (climbing (now (spec .entry))) (LOAD-NODE-MODULES (settingsOf (now (s .entry))) (now (start .entry)))) (tapeOf (now (result .entry)) (now (nums .entry)) (now (text .entry)) m) (tapeOf (now (result .exit)) (now (nums .exit)) (now (text .exit)) (r .mark)) (stepOf (r .way)) ⌝ }
 {
-    if !specifier::may_climb(spec) {
+    if !package_name::may_climb(spec) {
         return consults::next(m);
     }
     let mut p = PathBuf::new();
-    p.len = specifier::normalized(spec, &mut p.bytes);
+    p.len = package_name::normalized(spec, &mut p.bytes);
     let n = p.len;
     let normalized = path::first(&p.bytes, n);
-    if !specifier::climbs(normalized) {
+    if !package_name::climbs(normalized) {
         return consults::next(m);
     }
     load_node_modules(l, s, start, normalized, result, nums, text, m, work)

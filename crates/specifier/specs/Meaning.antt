@@ -3,19 +3,11 @@ use mathlib.Core.Path.{_≡_}
 use Prim.Native.Nat.{ℕ}
 use mathlib.Core.Bool.{Bool}
 use mathlib.Core.List.{List, [], _∷_, flatMap}
-use mathlib.Core.Option.{Option, none, some}
 use lib.ListN.{length, drop, take}
 use Rattle.definition.specs.Text.{if_then_else_, hash, containsText, utf8}
 use Rattle.definition.specs.Path.{Built, limited}
 use Rattle.definition.specs.Specifier.{Specifier, parsed, emptySpecifier, body, unescape}
 use Rattle.specifier.specs.declared.Specifier.{Specifier as Answer}
-use Rattle.specifier.specs.declared.Stripped.{Stripped}
-use Rattle.specifier.specs.declared.Stripped.the-variants.{At, Nothing}
-
--- the tail of a specifier
-abbrev pub tailOf : List ℕ → Stripped → Option (List ℕ)
-tailOf s (At i) = some (drop i s)
-tailOf s Nothing = none
 
 -- the fragment begins at i, and whether a "#" before it is escaped
 pub record Scanned (s : List ℕ) (i : ℕ) (escaped : Bool) : Type 0 where

@@ -1,9 +1,9 @@
-// Runs specifiers with known answers through the functions of `specifier`, and prints for each group how many are as expected.
+// Runs specifiers with known answers through the functions of `specifier` and `package_name`, and prints for each group how many are as expected.
 // A case that is not as expected is printed, and ends its group.
 use libc::STDOUT_FILENO;
+use package_name::Stripped;
 use path::PathBuf;
 use specifier::Specifier;
-use specifier::Stripped;
 
 fn report(ok: bool, name: &[u8]) {
     io::write_all(STDOUT_FILENO, name);
@@ -25,8 +25,8 @@ fn case(ok: bool, s: &[u8]) -> bool {
 }
 
 fn split(s: &[u8], name: &[u8], subpath: &[u8]) -> bool {
-    let a = text::equal(specifier::package_name(s), name);
-    let b = text::equal(specifier::package_subpath(s), subpath);
+    let a = text::equal(package_name::package_name(s), name);
+    let b = text::equal(package_name::package_subpath(s), subpath);
     case(a && b, s)
 }
 
@@ -71,7 +71,7 @@ fn scoped_names() -> bool {
 // Into a buffer of eight bytes.
 fn dotted(s: &[u8], wanted: &[u8]) -> bool {
     let mut d = [0u8; 8];
-    let n = specifier::dot_subpath(s, &mut d);
+    let n = package_name::dot_subpath(s, &mut d);
     let same = text::equal(path::first(&d, n), path::first(wanted, 8));
     case(same && n == wanted.len(), s)
 }
@@ -96,7 +96,7 @@ fn dots() -> bool {
 }
 
 fn strip(s: &[u8], name: &[u8], wanted: &[u8]) -> bool {
-    let r = specifier::strip_package_name(s, name);
+    let r = package_name::strip_package_name(s, name);
     match r {
         Stripped::At(i) => case(text::equal(specifier::tail(s, i), wanted), s),
         Stripped::Nothing => case(false, s),
@@ -104,7 +104,7 @@ fn strip(s: &[u8], name: &[u8], wanted: &[u8]) -> bool {
 }
 
 fn keep(s: &[u8], name: &[u8]) -> bool {
-    let r = specifier::strip_package_name(s, name);
+    let r = package_name::strip_package_name(s, name);
     match r {
         Stripped::At(_) => case(false, s),
         Stripped::Nothing => true,
@@ -140,11 +140,11 @@ fn strips() -> bool {
 }
 
 fn good(s: &[u8]) -> bool {
-    case(specifier::check(s), s)
+    case(package_name::check(s), s)
 }
 
 fn bad(s: &[u8]) -> bool {
-    case(!specifier::check(s), s)
+    case(!package_name::check(s), s)
 }
 
 fn bares() -> bool {
@@ -348,23 +348,23 @@ fn long_part() -> bool {
 fn long_climbs() -> bool {
     let mut out = [0u8; 2048];
     let mut s = [b'a'; 2049];
-    if specifier::normalized(&s[..2048], &mut out) != 2048 {
+    if package_name::normalized(&s[..2048], &mut out) != 2048 {
         return false;
     }
     s[2047] = b'/';
-    if specifier::normalized(&s[..2048], &mut out) != 2048 {
+    if package_name::normalized(&s[..2048], &mut out) != 2048 {
         return false;
     }
-    specifier::normalized(&s, &mut out) > 2048
+    package_name::normalized(&s, &mut out) > 2048
 }
 
 // The normalised specifier, and whether it leaves the directory of the first walk.
 fn climb(s: &[u8], wanted: &[u8], up: bool) -> bool {
     let mut p = PathBuf::new();
-    let n = specifier::normalized(s, &mut p.bytes);
+    let n = package_name::normalized(s, &mut p.bytes);
     let to = path::first(&p.bytes, n);
     let same = text::equal(to, wanted);
-    let above = specifier::may_climb(s) && specifier::climbs(to);
+    let above = package_name::may_climb(s) && package_name::climbs(to);
     case(same && above == up, s)
 }
 

@@ -11,7 +11,7 @@ use Rattle.consults.proofs.next.Reads as next-reads
 use Rattle.path.proofs.first.Reads as first-reads
 use Rattle.package_exports.proofs.exports_field.Reads as exports-field-reads
 use Rattle.package_exports.proofs.resolve_exports.Reads as resolve-exports-reads
-use Rattle.specifier.proofs.dot_subpath.Reads as dot-subpath-reads
+use Rattle.package_name.proofs.dot_subpath.Reads as dot-subpath-reads
 
 pub by-exports-spec : {M : Type 1} → statement M
 unfolding settingsOf

@@ -13,7 +13,7 @@ use Rattle.consults.proofs.next.Reads as next-reads
 use Rattle.json_text.proofs.text_at.Reads as text-at-reads
 use Rattle.package_exports.proofs.by_exports.Reads as by-exports-reads
 use Rattle.directory.proofs.text_field.Reads as text-field-reads
-use Rattle.specifier.proofs.strip_package_name.Reads as strip-package-name-reads
+use Rattle.package_name.proofs.strip_package_name.Reads as strip-package-name-reads
 use Rattle.specifier.proofs.tail.Reads as tail-reads
 
 pub in-scope-spec : {M : Type 1} → statement M

@@ -1,11 +1,11 @@
 use mathlib.Core.Path.{sym, _∙_, ap}
 use native.Mathlib.Omega.{arith}
 use lib.ListN.{length}
-use Rattle.specifier.proofs.Parts.{dotted, undotted, overwrite-front}
+use Rattle.package_name.proofs.Parts.{dotted, undotted, overwrite-front}
 use Rattle.definition.specs.Text.{overwrite}
 use borrow.Author.Needs.{needs}
-use Rattle.specifier.proofs.dot_subpath.Statement.{statement}
-use Rattle.specifier.proofs.dot_subpath.Tie as tie
+use Rattle.package_name.proofs.dot_subpath.Statement.{statement}
+use Rattle.package_name.proofs.dot_subpath.Tie as tie
 
 returns : tie.Need-returns
 returns c =

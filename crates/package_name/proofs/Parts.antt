@@ -1,4 +1,4 @@
--- Parts of a slice, and the tests on what is left behind a name. Assumes nothing.
+-- The subpath behind its ".", and the tests on what is left behind a name. Assumes nothing.
 use mathlib.Core.Path.{_≡_, sym, _∙_, ap}
 use Prim.Native.Nat.{ℕ, suc, _+_, _-_, _≤_, _<_}
 use mathlib.Core.Bool.{true, false, or-true}
@@ -6,18 +6,11 @@ use mathlib.Core.List.{List, [], _∷_, _++_}
 use mathlib.Core.Option.{none, some}
 use native.Mathlib.Omega.{arith}
 use lib.ListN.{length, drop, take, getD, length-drop, drop-of-length-le}
-use lib.Seq.{take-all, drop-length, drop-nil, take-nil}
+use lib.Seq.{drop-nil, take-nil}
 use Rattle.definition.specs.Text.{text, equal, startsWith, overwrite}
 use Rattle.laws.specs.TextSteps.{equal-lengths}
 use Rattle.definition.specs.Specifier.{dotSubpath, stripPackageName}
 use Rattle.laws.specs.SpecifierLaws.{starts-at, starts-not}
-
--- a part that runs to the end
-pub to-end : (s : List ℕ) (e : ℕ) → take (length s - e) (drop e s) ≡ drop e s
-to-end s e = take-all (length s - e) (drop e s) (simp length-drop (omega arith))
-
-pub at-end : (s : List ℕ) (e : ℕ) → length s ≤ e → take (length s - length s) (drop (length s) s) ≡ drop e s
-at-end s e h = to-end s (length s) ∙ drop-length s ∙ sym (drop-of-length-le s h)
 
 -- `dot_subpath`
 pub dotted : (s : List ℕ) → startsWith (text ".") s ≡ true → dotSubpath s ≡ s

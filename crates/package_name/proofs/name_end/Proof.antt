@@ -1,7 +1,7 @@
 use borrow.Author.Needs.{needs}
 use Rattle.laws.specs.SpecifierLaws.{name-whole, name-plain, name-scoped}
-use Rattle.specifier.proofs.name_end.Statement.{statement}
-use Rattle.specifier.proofs.name_end.Tie as tie
+use Rattle.package_name.proofs.name_end.Statement.{statement}
+use Rattle.package_name.proofs.name_end.Tie as tie
 
 pub name-end-spec : {M : Type 1} → statement M
 name-end-spec =

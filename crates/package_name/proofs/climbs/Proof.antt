@@ -1,8 +1,8 @@
 use mathlib.Core.Path.{_∙_, ap}
 use Rattle.definition.specs.Text.{text, equal}
 use borrow.Author.Needs.{needs}
-use Rattle.specifier.proofs.climbs.Statement.{statement}
-use Rattle.specifier.proofs.climbs.Tie as tie
+use Rattle.package_name.proofs.climbs.Statement.{statement}
+use Rattle.package_name.proofs.climbs.Tie as tie
 
 pub climbs-spec : {M : Type 1} → statement M
 climbs-spec =

@@ -3,8 +3,8 @@ use mathlib.Core.Bool.{and-false}
 use borrow.Author.Tests.{not-true, not-false, lt-leb, le-leb}
 use Rattle.definition.specs.Specifier.{isSpecifier}
 use borrow.Author.Needs.{needs}
-use Rattle.specifier.proofs.check.Statement.{statement}
-use Rattle.specifier.proofs.check.Tie as tie
+use Rattle.package_name.proofs.check.Statement.{statement}
+use Rattle.package_name.proofs.check.Tie as tie
 
 pub check-spec : {M : Type 1} → statement M
 unfolding isSpecifier

@@ -3,8 +3,8 @@ use mathlib.Core.Path.{sym}
 use native.Mathlib.Omega.{arith}
 use lib.Seq.{length-take-le}
 use Rattle.laws.specs.SpecifierLaws.{name-take, name-inside}
-use Rattle.specifier.proofs.package_name.Statement.{statement}
-use Rattle.specifier.proofs.package_name.Tie as tie
+use Rattle.package_name.proofs.package_name.Statement.{statement}
+use Rattle.package_name.proofs.package_name.Tie as tie
 
 pub package-name-spec : {M : Type 1} → statement M
 package-name-spec =

@@ -1,7 +1,7 @@
 use mathlib.Core.Path.{sym, _∙_}
 use borrow.Author.Needs.{needs}
-use Rattle.specifier.proofs.may_climb.Statement.{statement}
-use Rattle.specifier.proofs.may_climb.Tie as tie
+use Rattle.package_name.proofs.may_climb.Statement.{statement}
+use Rattle.package_name.proofs.may_climb.Tie as tie
 
 pub may-climb-spec : {M : Type 1} → statement M
 may-climb-spec =

@@ -3,10 +3,10 @@ use native.Mathlib.Omega.{arith}
 use lib.Seq.{length-take-le}
 use Rattle.definition.specs.Text.{slash}
 use Rattle.laws.specs.TextSteps.{first-inside}
-use Rattle.specifier.proofs.Bare.{none, root, hash, dot, dots, yes}
+use Rattle.package_name.proofs.Bare.{none, root, hash, dot, dots, yes}
 use borrow.Author.Needs.{needs}
-use Rattle.specifier.proofs.is_bare.Statement.{statement}
-use Rattle.specifier.proofs.is_bare.Tie as tie
+use Rattle.package_name.proofs.is_bare.Statement.{statement}
+use Rattle.package_name.proofs.is_bare.Tie as tie
 
 pub is-bare-spec : {M : Type 1} → statement M
 is-bare-spec =

@@ -1,9 +1,9 @@
 use mathlib.Core.Path.{sym, _∙_}
 use borrow.Author.Tests.{not-true, not-false}
-use Rattle.specifier.proofs.Parts.{strip-other, strip-whole, strip-slash, strip-backslash, strip-longer}
+use Rattle.package_name.proofs.Parts.{strip-other, strip-whole, strip-slash, strip-backslash, strip-longer}
 use borrow.Author.Needs.{needs}
-use Rattle.specifier.proofs.strip_package_name.Statement.{statement}
-use Rattle.specifier.proofs.strip_package_name.Tie as tie
+use Rattle.package_name.proofs.strip_package_name.Statement.{statement}
+use Rattle.package_name.proofs.strip_package_name.Tie as tie
 
 pub strip-package-name-spec : {M : Type 1} → statement M
 strip-package-name-spec =

@@ -1,8 +1,8 @@
 use mathlib.Core.Path.{sym, _∙_}
-use Rattle.specifier.proofs.Climb.{slash-kept, no-slash}
+use Rattle.package_name.proofs.Climb.{slash-kept, no-slash}
 use borrow.Author.Needs.{needs}
-use Rattle.specifier.proofs.normalized.Statement.{statement}
-use Rattle.specifier.proofs.normalized.Tie as tie
+use Rattle.package_name.proofs.normalized.Statement.{statement}
+use Rattle.package_name.proofs.normalized.Tie as tie
 
 pub normalized-spec : {M : Type 1} → statement M
 normalized-spec =

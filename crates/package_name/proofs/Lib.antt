@@ -1,0 +1,3 @@
+pub mod Bare
+pub mod Parts
+pub mod Climb
