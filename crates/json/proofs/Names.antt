@@ -15,7 +15,8 @@ use Rattle.laws.specs.JsonStringLaws.{by-test}
 use Rattle.definition.specs.Json as json
 use Rattle.definition.specs.Json.{got, fault, skipSpace, quoted, memberName}
 use Rattle.json_text.specs.Scanned.{faultOf, Reads}
-use Rattle.json.specs.Names.{markOf, rank, Ordered, Table, Fits, shifted, Inserted, Fresh, Key, NameRead, keyOf, colonAt}
+use Rattle.json.specs.Names.{markOf, rank, Ordered, Table, Fits, shifted, Inserted, Fresh, Key, NameRead, keyOf}
+use Rattle.json_scalar.specs.Scalars.{colonAt}
 use Rattle.json_text.specs.declared.Fault as code
 use Rattle.json_text.specs.declared.Scan.{Scan}
 use Rattle.json_text.specs.declared.Scan.the-variants.{End, Fault}

@@ -11,15 +11,15 @@ use borrow.Author.Tests.{eq-eqb, ne-eqb}
 use Rattle.definition.specs.Text.{if_then_else_}
 use Rattle.definition.specs.Json.{Json, str, arr, obj, Elements, noElement, element, Members, noMember, member, Read, got, fault, malformed, beyond, andThen, skipSpace, quoted, follow, elements, memberName, colon, members, array, object, valueBy, value}
 use Rattle.json_text.specs.Scanned.{faultOf, Reads}
-use Rattle.json.specs.Values.{scalarOf, Next, more, close, neither, afterOf, afterAt}
-use Rattle.json.specs.Names.{Table, Inserted, Key, KeyRead, Named, colonAt, keyOf}
+use Rattle.json_scalar.specs.Scalars.{scalarOf, Next, more, close, neither, afterOf, afterAt, colonAt}
+use Rattle.json.specs.Names.{Table, Inserted, Key, KeyRead, Named, keyOf}
 use Rattle.json_text.specs.declared.Fault as code
 use Rattle.json_text.specs.declared.Fault.the-variants.{Malformed, Beyond}
 use Rattle.json.specs.declared.Name.{Name}
 use Rattle.json_text.specs.declared.Scan.{Scan}
 use Rattle.json_text.specs.declared.Scan.the-variants.{End, Fault}
-use Rattle.json.specs.declared.Then.{Then}
-use Rattle.json.specs.declared.Then.the-variants.{More, Close, Neither}
+use Rattle.json_scalar.specs.declared.Then.{Then}
+use Rattle.json_scalar.specs.declared.Then.the-variants.{More, Close, Neither}
 use Rattle.json_text.proofs.Rules.{here, past}
 use Rattle.json.proofs.Names.{table-more, table-empty, table-one}
 use Rattle.json_text.proofs.Laws.{faulty, ended, then-fault, then-end, reads-map}

@@ -1,14 +1,14 @@
 -- The names of an object's members: the places at which they stand, their marks, and their order.
 use mathlib.Core.Path.{_≡_}
 use Prim.Native.Nat.{ℕ, _+_, _-_, _*_, _%_, _<_, _≤_}
-use Prim.Native.Char.{code}
 use mathlib.Core.Bool.{true, false}
 use mathlib.Core.List.{List, [], _∷_}
 use lib.ListN.{drop, getD}
 use lib.Dec.{eqb, ltb}
 use Rattle.definition.specs.Text.{if_then_else_, isOneOf, smaller}
-use Rattle.definition.specs.Json.{Read, got, fault, malformed, andThen, skipSpace, quoted, memberName}
+use Rattle.definition.specs.Json.{Read, got, fault, andThen, skipSpace, quoted, memberName}
 use Rattle.json_text.specs.Scanned.{faultOf}
+use Rattle.json_scalar.specs.Scalars.{colonAt}
 use Rattle.json.specs.declared.Order.{Order}
 use Rattle.json.specs.declared.Order.the-variants.{Before, Same, Behind}
 use Rattle.json.specs.declared.Spot.{Spot}
@@ -60,11 +60,6 @@ pub record Inserted (a b : List ℕ) (k at x : ℕ) : Type 0 where
 abbrev pub Fresh : (ℕ → List ℕ) → ℕ → List (List ℕ) → List ℕ → ℕ → Name → Type 0
 Fresh texts k ns key end (New e h at) = (e ≡ end) × ((h ≡ markOf 0 key) × ((isOneOf ns key ≡ false) × Fits texts k at key))
 Fresh texts k ns key end (Fault f) = (f ≡ Twice) × (isOneOf ns key ≡ true)
-
--- the definition's `colon`, before the value
-unfoldable pub colonAt : List ℕ → Read (Unit {0})
-colonAt [] = fault malformed
-colonAt (b ∷ s) = if eqb b (code ":") then got tt (skipSpace s) else fault malformed
 
 -- a member up to its value
 unfoldable pub keyOf : List (List ℕ) → List ℕ → Read (List ℕ)

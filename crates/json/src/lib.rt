@@ -1,246 +1,17 @@
 // The values of RFC 8259 at any place of any bytes: where one ends, or its first fault by document 01's limits.
+use json_scalar::Then;
 use json_text::Fault;
 use json_text::Scan;
 ghost use mathlib.Core.Path.{_≡_};
 ghost use mathlib.Core.List.{List, [], _∷_};
 ghost use Prim.Native.Nat.{ℕ, _≤_, _<_};
 ghost use lib.ListN.{length, drop};
-ghost use Rattle.definition.specs.Text.{isDigit};
-ghost use Rattle.definition.specs.Json.{isSpace, skipSpace, skipDigits, digits as digitsOf, startsValue, sign as signOf, exponent as exponentOf, fraction as fractionOf, integer as integerOf, word as wordOf, quoted as quotedOf, Read, Json, value as valueOf, array as arrayOf, object as objectOf, elements as elementsOf, members as membersOf, got};
+ghost use Rattle.definition.specs.Json.{skipSpace, quoted as quotedOf, Read, Json, value as valueOf, array as arrayOf, object as objectOf, elements as elementsOf, members as membersOf, got};
 ghost use Rattle.json_text.specs.Scanned.{Reads};
-ghost use Rattle.json.specs.Names.{markOf, rank, Ordered, Table, Spotted, Inserted, Fresh, NameRead, KeyRead, Named, colonAt};
-ghost use Rattle.json.specs.Values.{scalarOf, afterOf, afterAt};
+ghost use Rattle.json.specs.Names.{markOf, rank, Ordered, Table, Spotted, Inserted, Fresh, NameRead, KeyRead, Named};
 
 // 01's limit of the members of an object and of the elements of an array.
 pub const MEMBERS: usize = 128;
-
-// White space of JSON.
-fn is_space(b: u8) -> bool
-    ensures { λ r. ⌜ r ≡ isSpace b ⌝ }
-{
-    if b == 32 {
-        return true;
-    }
-    if b == 9 {
-        return true;
-    }
-    if b == 10 {
-        return true;
-    }
-    b == 13
-}
-
-// The place of the first byte from `at` on that is no white space.
-pub fn skip_space(m: &[u8], at: usize) -> usize
-    ensures { λ r. ⌜ skipSpace (drop at (now (m .entry))) ≡ drop r (now (m .entry)) ⌝ }
-{
-    let mut i = at;
-    while i < m.len() {
-        let space = is_space(m[i]);
-        if space {
-            i += 1;
-        } else {
-            return i;
-        }
-    }
-    i
-}
-
-// 0 to 9.
-fn is_digit(b: u8) -> bool
-    ensures { λ r. ⌜ r ≡ isDigit b ⌝ }
-{
-    if b < 48 {
-        return false;
-    }
-    b <= 57
-}
-
-// The place of the first byte from `at` on that is no digit.
-fn skip_digits(m: &[u8], at: usize) -> usize
-    ensures { λ r. ⌜ skipDigits (drop at (now (m .entry))) ≡ drop r (now (m .entry)) ⌝ }
-{
-    let mut i = at;
-    while i < m.len() {
-        let digit = is_digit(m[i]);
-        if digit {
-            i += 1;
-        } else {
-            return i;
-        }
-    }
-    i
-}
-
-// One digit or more.
-fn digits(m: &[u8], at: usize) -> Scan
-    ensures { λ r. ⌜ Reads (now (m .entry)) (digitsOf (drop at (now (m .entry)))) r ⌝ }
-{
-    if at < m.len() {
-        let digit = is_digit(m[at]);
-        if digit {
-            return Scan::End(skip_digits(m, at + 1));
-        }
-    }
-    Scan::Fault(Fault::Malformed)
-}
-
-// Past a sign, if one stands here.
-fn sign(m: &[u8], at: usize) -> usize
-    ensures { λ r. ⌜ signOf (drop at (now (m .entry))) ≡ drop r (now (m .entry)) ⌝ }
-{
-    if at < m.len() {
-        let b = m[at];
-        if b == b'+' {
-            return at + 1;
-        }
-        if b == b'-' {
-            return at + 1;
-        }
-    }
-    at
-}
-
-fn exponent(m: &[u8], at: usize) -> Scan
-    ensures { λ r. ⌜ Reads (now (m .entry)) (exponentOf (drop at (now (m .entry)))) r ⌝ }
-{
-    if at < m.len() {
-        let b = m[at];
-        if b == b'e' {
-            return digits(m, sign(m, at + 1));
-        }
-        if b == b'E' {
-            return digits(m, sign(m, at + 1));
-        }
-    }
-    Scan::End(at)
-}
-
-fn fraction(m: &[u8], at: usize) -> Scan
-    ensures { λ r. ⌜ Reads (now (m .entry)) (fractionOf (drop at (now (m .entry)))) r ⌝ }
-{
-    if at < m.len() {
-        if m[at] == b'.' {
-            let read = digits(m, at + 1);
-            return match read {
-                Scan::Fault(f) => Scan::Fault(f),
-                Scan::End(end) => exponent(m, end),
-            };
-        }
-        return exponent(m, at);
-    }
-    Scan::End(at)
-}
-
-fn integer(m: &[u8], at: usize) -> Scan
-    ensures { λ r. ⌜ Reads (now (m .entry)) (integerOf (drop at (now (m .entry)))) r ⌝ }
-{
-    if at < m.len() {
-        let b = m[at];
-        if b == b'0' {
-            return fraction(m, at + 1);
-        }
-        let digit = is_digit(b);
-        if digit {
-            return fraction(m, skip_digits(m, at + 1));
-        }
-    }
-    Scan::Fault(Fault::Malformed)
-}
-
-// The rest of null, true or false.
-fn word(m: &[u8], at: usize, w: &[u8]) -> Scan
-    ensures { λ r. ⌜ Reads (now (m .entry)) (wordOf (now (w .entry)) (drop at (now (m .entry)))) r ⌝ }
-{
-    let mut i = at;
-    let mut k: usize = 0;
-    while k < w.len() {
-        if i >= m.len() {
-            return Scan::Fault(Fault::Malformed);
-        }
-        if m[i] != w[k] {
-            return Scan::Fault(Fault::Malformed);
-        }
-        i += 1;
-        k += 1;
-    }
-    Scan::End(i)
-}
-
-// A value that is no string and opens no bracket.
-fn scalar(m: &[u8], at: usize) -> Scan
-    ensures { λ r. ⌜ Reads (now (m .entry)) (scalarOf (drop at (now (m .entry)))) r ⌝ }
-{
-    if at < m.len() {
-        let b = m[at];
-        if b == b't' {
-            return word(m, at + 1, b"rue");
-        }
-        if b == b'f' {
-            return word(m, at + 1, b"alse");
-        }
-        if b == b'n' {
-            return word(m, at + 1, b"ull");
-        }
-        if b == b'-' {
-            return integer(m, at + 1);
-        }
-        return integer(m, at);
-    }
-    Scan::Fault(Fault::Malformed)
-}
-
-// A byte with which a value can begin.
-pub fn starts_value(b: u8) -> bool
-    ensures { λ r. ⌜ r ≡ startsValue b ⌝ }
-{
-    let digit = is_digit(b);
-    if digit {
-        return true;
-    }
-    if b == b'"' {
-        return true;
-    }
-    if b == b'{' {
-        return true;
-    }
-    if b == b'[' {
-        return true;
-    }
-    if b == b'-' {
-        return true;
-    }
-    if b == b't' {
-        return true;
-    }
-    if b == b'f' {
-        return true;
-    }
-    b == b'n'
-}
-
-// What stands behind an element or a member: the next one, the end of them, or neither.
-pub enum Then {
-    More(usize),
-    Close(usize),
-    Neither,
-}
-
-fn after(m: &[u8], at: usize, bracket: u8) -> Then
-    ensures { λ r. ⌜ afterOf bracket (skipSpace (drop at (now (m .entry)))) ≡ afterAt (now (m .entry)) r ⌝ }
-{
-    let i = skip_space(m, at);
-    if i < m.len() {
-        let b = m[i];
-        if b == b',' {
-            return Then::More(skip_space(m, i + 1));
-        }
-        if b == bracket {
-            return Then::Close(i + 1);
-        }
-    }
-    Then::Neither
-}
 
 fn wide(b: u8) -> usize
     ensures { λ r. ⌜ r ≡ b ⌝ }
@@ -406,19 +177,6 @@ fn member_name(m: &[u8], at: usize, names: &[usize], marks: &[usize], count: usi
     }
 }
 
-// The colon behind a name: where the value begins.
-fn colon(m: &[u8], at: usize) -> Scan
-    ensures { λ r. ⌜ Reads (now (m .entry)) (colonAt (skipSpace (drop at (now (m .entry))))) r ⌝ }
-{
-    let i = skip_space(m, at);
-    if i < m.len() {
-        if m[i] == b':' {
-            return Scan::End(skip_space(m, i + 1));
-        }
-    }
-    Scan::Fault(Fault::Malformed)
-}
-
 // A member up to its value.
 fn key(m: &[u8], at: usize, names: &[usize], marks: &[usize], count: usize) -> Name
     requires { ⌜ (count ≤ length (now names)) × (count ≤ length (now marks)) ⌝ }
@@ -428,7 +186,7 @@ fn key(m: &[u8], at: usize, names: &[usize], marks: &[usize], count: usize) -> N
     match name {
         Name::Fault(f) => Name::Fault(f),
         Name::New(end, mark, spot) => {
-            let start = colon(m, end);
+            let start = json_scalar::colon(m, end);
             match start {
                 Scan::Fault(f) => Name::Fault(f),
                 Scan::End(value) => Name::New(value, mark, spot),
@@ -458,7 +216,7 @@ pub fn value(m: &[u8], at: usize, depth: usize) -> Scan
             }
             return object(m, at + 1, depth - 1);
         }
-        return scalar(m, at);
+        return json_scalar::scalar(m, at);
     }
     Scan::Fault(Fault::Malformed)
 }
@@ -467,7 +225,7 @@ pub fn value(m: &[u8], at: usize, depth: usize) -> Scan
 fn array(m: &[u8], at: usize, depth: usize) -> Scan
     ensures { λ r. ⌜ Reads (now (m .entry)) (arrayOf (valueOf depth) (skipSpace (drop at (now (m .entry))))) r ⌝ }
 {
-    let mut i = skip_space(m, at);
+    let mut i = json_scalar::skip_space(m, at);
     if i >= m.len() {
         return Scan::Fault(Fault::Malformed);
     }
@@ -480,7 +238,7 @@ fn array(m: &[u8], at: usize, depth: usize) -> Scan
         match read {
             Scan::Fault(f) => return Scan::Fault(f),
             Scan::End(end) => {
-                let then = after(m, end, b']');
+                let then = json_scalar::after(m, end, b']');
                 match then {
                     Then::Neither => return Scan::Fault(Fault::Malformed),
                     Then::Close(next) => return Scan::End(next),
@@ -500,7 +258,7 @@ fn array(m: &[u8], at: usize, depth: usize) -> Scan
 fn object(m: &[u8], at: usize, depth: usize) -> Scan
     ensures { λ r. ⌜ Reads (now (m .entry)) (objectOf (valueOf depth) (skipSpace (drop at (now (m .entry))))) r ⌝ }
 {
-    let i = skip_space(m, at);
+    let i = json_scalar::skip_space(m, at);
     if i >= m.len() {
         return Scan::Fault(Fault::Malformed);
     }
@@ -516,7 +274,7 @@ fn object(m: &[u8], at: usize, depth: usize) -> Scan
             match read {
                 Scan::Fault(f) => Scan::Fault(f),
                 Scan::End(end) => {
-                    let then = after(m, end, b'}');
+                    let then = json_scalar::after(m, end, b'}');
                     match then {
                         Then::Neither => Scan::Fault(Fault::Malformed),
                         Then::Close(next) => Scan::End(next),
@@ -548,7 +306,7 @@ fn more_members(m: &[u8], at: usize, depth: usize, first: usize, mark: usize) ->
                 match read {
                     Scan::Fault(f) => return Scan::Fault(f),
                     Scan::End(end) => {
-                        let then = after(m, end, b'}');
+                        let then = json_scalar::after(m, end, b'}');
                         match then {
                             Then::Neither => return Scan::Fault(Fault::Malformed),
                             Then::Close(next) => return Scan::End(next),
@@ -572,7 +330,7 @@ fn extra_element(m: &[u8], at: usize) -> Scan
     ensures { λ r. ⌜ ((v : List ℕ → Read Json) → Reads (now (m .entry)) (elementsOf v 0 (drop at (now (m .entry)))) r) ⌝ }
 {
     if at < m.len() {
-        let starts = starts_value(m[at]);
+        let starts = json_scalar::starts_value(m[at]);
         if starts {
             return Scan::Fault(Fault::Beyond);
         }

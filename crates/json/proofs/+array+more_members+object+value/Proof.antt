@@ -20,13 +20,13 @@ use Rattle.json.proofs.+array+more_members+object+value.Lts-object as o
 use Rattle.json.proofs.value.Reads as value
 use Rattle.json.proofs.value.Kinds as value-kinds
 use Rattle.json.proofs.+array+more_members+object+value.Lts-value as value-lts
-use Rattle.json.proofs.after.Reads as after-reads
+use Rattle.json_scalar.proofs.after.Reads as after-reads
 use Rattle.json.proofs.extra_element.Reads as extra-element-reads
 use Rattle.json.proofs.extra_member.Reads as extra-member-reads
 use Rattle.json.proofs.insert.Reads as insert-reads
 use Rattle.json.proofs.key.Reads as key-reads
-use Rattle.json.proofs.scalar.Reads as scalar-reads
-use Rattle.json.proofs.skip_space.Reads as skip-space-reads
+use Rattle.json_scalar.proofs.scalar.Reads as scalar-reads
+use Rattle.json_scalar.proofs.skip_space.Reads as skip-space-reads
 use Rattle.json_text.proofs.quoted.Reads as quoted-reads
 use Rattle.json.proofs.+array+more_members+object+value.{statement}
 use Rattle.json.proofs.+array+more_members+object+value.Tie.{close}
