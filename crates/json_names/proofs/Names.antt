@@ -1,31 +1,26 @@
 -- The names at places: their marks, their order, and one more of them.
-use mathlib.Core.Path.{_≡_, refl, sym, _∙_, ap}
+use mathlib.Core.Path.{_≡_, refl, sym, _∙_, ap, subst}
 use mathlib.Core.Bool.{Bool, true, false, _||_, or-true}
-use mathlib.Core.List.{List, [], _∷_}
-use Prim.Native.Nat.{ℕ, _+_, _-_, _*_, _%_, _<_, _≤_}
+use mathlib.Core.List.{List, [], _∷_, _++_}
+use Prim.Native.Nat.{ℕ, zero, suc, _+_, _-_, _*_, _%_, _<_, _≤_}
+use native.Mathlib.Numerals.{add-one}
 use native.Mathlib.Omega.{arith}
-use lib.ListN.{length, drop, getD, set, length-set}
-use lib.Seq.{getD-set-same, getD-set-other}
-use lib.Dec.{eqb, ltb}
-use borrow.Author.Tests.{eq-eqb, ne-eqb, lt-ltb, le-ltb, eqb-true, eqb-false, ltb-true, ltb-false}
-use Rattle.definition.specs.Text.{equal, isOneOf, smaller}
+use lib.ListN.{length, take, drop, getD, set, length-drop, List·getD-append}
+use lib.Seq.{length-take-le, take-suc, drop-cons, append-snoc, split-at, set-at, getD-at, getD-append-add, getD-take, getD-drop}
+use lib.Dec.{eqb, ltb, leb}
+use borrow.Author.Tests.{eq-eqb, ne-eqb, lt-ltb, le-ltb, le-leb, eqb-true, eqb-false, ltb-true, ltb-false, leb-true}
+use Rattle.definition.specs.Text.{if_then_else_, equal, isOneOf, smaller}
 use Rattle.laws.specs.TextLaws.{equal-true, equal-refl}
 use Rattle.laws.specs.ListingOrder.{smaller-trans, smaller-unequal}
 use Rattle.laws.specs.JsonStringLaws.{by-test}
 use Rattle.definition.specs.Json as json
-use Rattle.definition.specs.Json.{got, fault, skipSpace, quoted, memberName}
-use Rattle.json_text.specs.Scanned.{faultOf, Reads}
-use Rattle.json.specs.Names.{markOf, rank, Ordered, Table, Fits, shifted, Inserted, Fresh, Key, NameRead, keyOf}
-use Rattle.json_scalar.specs.Scalars.{colonAt}
-use Rattle.json_text.specs.declared.Fault as code
-use Rattle.json_text.specs.declared.Scan.{Scan}
-use Rattle.json_text.specs.declared.Scan.the-variants.{End, Fault}
-use Rattle.json.specs.declared.Order.{Order}
-use Rattle.json.specs.declared.Order.the-variants.{Before, Same, Behind}
-use Rattle.json.specs.declared.Name.{Name}
-use Rattle.json.specs.declared.Name.the-variants.{New, Fault as NoName}
+use Rattle.definition.specs.Json.{got, fault, quoted, memberName}
+use Rattle.json_names.specs.Names.{markOf, rank, Ordered, Table, Fits, held, inserted, Fresh, NameRead}
+use Rattle.json_names.specs.declared.Order.{Order}
+use Rattle.json_names.specs.declared.Order.the-variants.{Before, Same, Behind}
+use Rattle.json_names.specs.declared.Name.{Name}
+use Rattle.json_names.specs.declared.Name.the-variants.{New, Fault as NoName}
 use Rattle.json_text.proofs.Rules.{here, past}
-use Rattle.json_text.proofs.Laws.{was-end, was-fault}
 
 no : {P : Type 0} → ⊥ → P
 no z = absurd z
@@ -107,42 +102,20 @@ module _ {m ps hs : List ℕ} {k : ℕ} {ns : List (List ℕ)} (h : Table m ps h
       go false e = e
       go true e = let f = h .only key e in no (apart (f .0) (f .1 .0) (f .1 .1))
 
--- one number put in: the loop that moves the others up, from the last
-pub record Moved (a b : List ℕ) (k i : ℕ) : Type 0 where
-  pub size : length b ≡ length a
-  pub lower : (j : ℕ) → j ≤ i → getD b j 0 ≡ getD a j 0
-  pub upper : (j : ℕ) → i < j → j ≤ k → getD b j 0 ≡ getD a (j - 1) 0
+-- the names that two tables hold
+pub held-within : (ps hs : List ℕ) (k : ℕ) → (held ps hs k ≤ length ps) × (held ps hs k ≤ length hs)
+unfolding held
+held-within ps hs k =
+    by-test (leb k (length ps)) (λ p. by-test (leb k (length hs)) (λ h. rw (p, h) (leb-true k (length ps) p, leb-true k (length hs) h)) (λ h. rw (p, h) (omega arith, omega arith))) (λ p. rw p (omega arith, omega arith))
 
-pub moved-start : (a : List ℕ) (k : ℕ) → Moved a a k k
-moved-start a k = record { size = refl; lower = λ j l. refl; upper = λ j l h. no (omega arith) }
+held-all : (ps hs : List ℕ) (k : ℕ) → k ≤ length ps → k ≤ length hs → held ps hs k ≡ k
+unfolding held
+held-all ps hs k p h = rw (le-leb k (length ps) p, le-leb k (length hs) h)
 
-module _ {a b : List ℕ} {k i : ℕ} (g : Moved a b k i) where
-  pub moved-on : 0 < i → i < length a → Moved a (set b i (getD b (i - 1) 0)) k (i - 1)
-  moved-on l h = let s = g .size in record {
-    size = simp length-set (g .size);
-    lower = λ j q. getD-set-other b i j _ 0 (λ e. omega arith) ∙ g .lower j (omega arith);
-    upper = λ j q r. by-test (eqb j i)
-        (λ z. let e : j ≡ i = eqb-true j i z in rw e (getD-set-same b i _ 0 (omega arith) ∙ g .lower (i - 1) (omega arith)))
-        (λ z. getD-set-other b i j _ 0 (eqb-false j i z) ∙ g .upper j (let w = eqb-false j i z in below-other j i w q) r);
-  }
-    where
-      below-other : (j i : ℕ) → (j ≡ i → ⊥) → i - 1 < j → i < j
-      below-other j i n q = by-test (ltb i j) (λ z. ltb-true i j z) (λ z. no (n (let w = ltb-false i j z in omega arith)))
+-- x put at a place, and what stood from there on moved up
+unfoldable pub shifted : {A : Type 0} → (ℕ → A) → ℕ → A → ℕ → A
+shifted f at x i = if ltb i at then f i else if eqb i at then x else f (i - 1)
 
-  pub moved-end : (at x : ℕ) → at ≤ i → i ≤ at → at < length a → Inserted a (set b at x) k at x
-  unfolding shifted
-  moved-end at x p q l = let s = g .size in record {
-    is = λ j r.
-        by-test (ltb j at) (λ z. let w = ltb-true j at z in rw z (getD-set-other b at j x 0 (λ e. omega arith) ∙ g .lower j (omega arith))) λ z.
-        by-test (eqb j at) (λ y. let e : j ≡ at = eqb-true j at y in rw (z, y) (rw e (getD-set-same b at x 0 (omega arith)))) λ y.
-        let n = eqb-false j at y in
-        rw (z, y) (getD-set-other b at j x 0 n ∙ g .upper j (let w = ltb-false j at z in above-other j n w) r);
-  }
-    where
-      above-other : (j : ℕ) → (j ≡ at → ⊥) → at ≤ j → i < j
-      above-other j n w = by-test (ltb i j) (λ z. ltb-true i j z) (λ z. no (n (let v = ltb-false i j z in omega arith)))
-
--- what was put in, by place
 module _ {A : Type 0} (f : ℕ → A) (at : ℕ) (x : A) where
   shift-low : (i : ℕ) → i < at → shifted f at x i ≡ f i
   unfolding shifted
@@ -164,6 +137,56 @@ data Side (i at : ℕ) : Type 0 where
 
 side : (i at : ℕ) → Side i at
 side i at = by-test (ltb i at) (λ z. low (ltb-true i at z)) λ z. by-test (eqb i at) (λ y. level (eqb-true i at y)) λ y. high (let w = ltb-false i at z in let n = eqb-false i at y in by-test (ltb at i) (λ v. ltb-true at i v) (λ v. no (n (let u = ltb-false at i v in omega arith))))
+
+pub record Inserted (a b : List ℕ) (k at x : ℕ) : Type 0 where
+  pub is : (i : ℕ) → i ≤ k → getD b i 0 ≡ shifted (λ j. getD a j 0) at x i
+
+-- one number put in: the loop that moves the others up, from the last; the i-th still stands where it stood
+abbrev pub moved : List ℕ → ℕ → ℕ → List ℕ
+moved a k i = take i a ++ getD a i 0 ∷ (take (k - i) (drop i a) ++ drop (k + 1) a)
+
+module _ (a : List ℕ) (k : ℕ) (l : k < length a) where
+  pub moved-start : a ≡ moved a k k
+  moved-start = let z : k - k ≡ 0 = omega arith in rw (z, add-one) (split-at a k 0 l)
+
+  pub moved-on : (i : ℕ) → 0 < i → i ≤ k → set (moved a k i) i (getD (moved a k i) (i - 1) 0) ≡ moved a k (i - 1)
+  moved-on zero p q = no (omega arith)
+  moved-on (suc j) p q =
+      let z : suc j - 1 ≡ j = omega arith in
+      let y : k - j ≡ suc (k - suc j) = omega arith in
+      let w : length (take (suc j) a) ≡ suc j = length-take-le (suc j) a (omega arith) in
+      let v : getD (moved a k (suc j)) j 0 ≡ getD a j 0 = List·getD-append (take (suc j) a) _ 0 j (omega (arith, w)) ∙ getD-take (suc j) a j 0 (omega arith) in
+      rw (z, v, y, drop-cons a j 0 (omega arith)) (set-at (take (suc j) a) _ _ (getD a j 0) (suc j) w ∙ rw (take-suc a j 0 (omega arith)) (append-snoc (take j a) (getD a j 0) _))
+
+  module _ {at : ℕ} (x : ℕ) (q : at ≤ k) where
+    put : inserted k at x a ≡ take at a ++ x ∷ (take (k - at) (drop at a) ++ drop (k + 1) a)
+    unfolding inserted
+    put = rw (lt-ltb k (length a) l, le-leb at k q)
+
+    pub moved-end : (i : ℕ) → at ≤ i → i ≤ at → set (moved a k i) at x ≡ inserted k at x a
+    moved-end i r s = let z : i ≡ at = omega arith in rw z (set-at (take at a) _ _ x at (length-take-le at a (omega arith)) ∙ sym put)
+
+    -- the same by places
+    pub inserted-is : Inserted a (inserted k at x a) k at x
+    inserted-is = record { is = λ i r. rw put (go i r (side i at)) }
+      where
+        w : length (take at a) ≡ at
+        w = length-take-le at a (omega arith)
+
+        go : (i : ℕ) → i ≤ k → Side i at → getD (take at a ++ x ∷ (take (k - at) (drop at a) ++ drop (k + 1) a)) i 0 ≡ shifted (λ j. getD a j 0) at x i
+        go i r (low y) = List·getD-append (take at a) _ 0 i (omega (arith, w, y)) ∙ getD-take at a i 0 y ∙ sym (shift-low (λ j. getD a j 0) at x i y)
+        go i r (level y) = getD-at (take at a) x _ 0 i (w ∙ sym y) ∙ sym (shift-at (λ j. getD a j 0) at x i y)
+        go i r (high y) =
+            let z : i ≡ length (take at a) + suc (i - at - 1) = omega (arith, w, y) in
+            let v : at + (i - at - 1) ≡ i - 1 = omega arith in
+            let t : length (take (k - at) (drop at a)) ≡ k - at = length-take-le (k - at) (drop at a) (rw (length-drop at a) (omega arith)) in
+            ap (λ j. getD (take at a ++ x ∷ (take (k - at) (drop at a) ++ drop (k + 1) a)) j 0) z
+            ∙ getD-append-add (take at a) _ (suc (i - at - 1)) 0
+            ∙ List·getD-append (take (k - at) (drop at a)) _ 0 (i - at - 1) (omega (arith, t, y, r))
+            ∙ getD-take (k - at) (drop at a) (i - at - 1) 0 (omega (arith, y, r))
+            ∙ getD-drop at a (i - at - 1) 0
+            ∙ ap (λ j. getD a j 0) v
+            ∙ sym (shift-high (λ j. getD a j 0) at x i y)
 
 -- ONE NAME MORE
 module _ {m ps hs ps′ hs′ : List ℕ} {k : ℕ} {ns : List (List ℕ)} (h : Table m ps hs k ns) {key s : List ℕ} {at p x : ℕ} (q : quoted (drop p m) ≡ got key s) (e : x ≡ markOf 0 key) (g : Fits (h .texts) k at key)
@@ -237,6 +260,14 @@ table-one {m} {ps} {hs} q p h = table-more (table-empty m ps hs) q h (record { w
     first : {a : List ℕ} {x : ℕ} → getD a 0 0 ≡ x → Inserted a a 0 0 x
     first e = record { is = λ j r. let z : j ≡ 0 = omega arith in rw z e }
 
+-- a name that was read among as many names as the tables hold
+pub among-held : (m ps hs : List ℕ) (k at : ℕ) (r : Name) {n : ℕ} → n ≡ held ps hs k → ((ns : List (List ℕ)) (h : Table m ps hs n ns) → NameRead m ns (h .texts) n at r) → (ns : List (List ℕ)) (h : Table m ps hs (held ps hs k) ns) → NameRead m ns (h .texts) (held ps hs k) at r
+among-held m ps hs k at r e f = subst (λ n. (ns : List (List ℕ)) (h : Table m ps hs n ns) → NameRead m ns (h .texts) n at r) e f
+
+-- and among k names, where the tables hold so many
+pub among-all : (m ps hs : List ℕ) (k at : ℕ) (r : Name) → (k ≤ length ps) × (k ≤ length hs) → ((ns : List (List ℕ)) (h : Table m ps hs (held ps hs k) ns) → NameRead m ns (h .texts) (held ps hs k) at r) → (ns : List (List ℕ)) (h : Table m ps hs k ns) → NameRead m ns (h .texts) k at r
+among-all m ps hs k at r l f = subst (λ n. (ns : List (List ℕ)) (h : Table m ps hs n ns) → NameRead m ns (h .texts) n at r) (held-all ps hs k (l .0) (l .1)) f
+
 -- a name that was read
 pub name-read : (m : List ℕ) (ns : List (List ℕ)) (texts : ℕ → List ℕ) (n at end : ℕ) (t k : List ℕ) (r : Name) → quoted (drop at m) ≡ got k (drop end m) → t ≡ k → Fresh texts n ns t end r → NameRead m ns texts n at r
 unfolding memberName
@@ -246,21 +277,3 @@ name-read m ns texts n at end t k (NoName x) q d f = rw (q, f .0) (rw (sym d) (r
 pub name-fault : (m : List ℕ) (ns : List (List ℕ)) (at : ℕ) {f : json.Fault} → quoted (drop at m) ≡ fault f → memberName ns (drop at m) ≡ fault f
 unfolding memberName
 name-fault m ns at e = rw e
-
--- and its colon
-module _ (m : List ℕ) (ns : List (List ℕ)) (texts : ℕ → List ℕ) (n at : ℕ) {r : Name} (d : NameRead m ns texts n at r) where
-  pub key-unnamed : {f : code.Fault} → r ≡ NoName f → keyOf ns (drop at m) ≡ fault (faultOf f)
-  unfolding keyOf
-  key-unnamed e = rw (rw e at d)
-
-  module _ {end h i : ℕ} (e : r ≡ New end h i) {t : Scan} (c : Reads m (colonAt (skipSpace (drop end m))) t) where
-    named : Key m texts n (memberName ns (drop at m)) at end h i
-    named = rw e at d
-
-    pub key-bare : {f : code.Fault} → t ≡ Fault f → keyOf ns (drop at m) ≡ fault (faultOf f)
-    unfolding keyOf
-    key-bare q = rw (named .read) (rw (was-fault c q))
-
-    pub key-whole : {from : ℕ} → t ≡ End from → Key m texts n (keyOf ns (drop at m)) at from h i
-    unfolding keyOf
-    key-whole {from} q = record { name = named .name; read = rw (named .read) (rw (was-end c q .1)); behind = named .behind; quote = named .quote; mark = named .mark; fits = named .fits }

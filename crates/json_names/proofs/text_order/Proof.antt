@@ -2,9 +2,9 @@ use mathlib.Core.Path.{subst}
 use native.Mathlib.Omega.{arith}
 use borrow.Author.Needs.{needs}
 use Rattle.json_text.proofs.Texts.{text-read}
-use Rattle.json.specs.Names.{Ordered}
-use Rattle.json.proofs.text_order.Statement.{statement}
-use Rattle.json.proofs.text_order.Tie as tie
+use Rattle.json_names.specs.Names.{Ordered}
+use Rattle.json_names.proofs.text_order.Statement.{statement}
+use Rattle.json_names.proofs.text_order.Tie as tie
 
 pub text-order-spec : {M : Type 1} → statement M
 text-order-spec =

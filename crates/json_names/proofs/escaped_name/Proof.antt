@@ -2,9 +2,9 @@ use mathlib.Core.Path.{subst}
 use native.Mathlib.Omega.{arith}
 use borrow.Author.Needs.{needs}
 use Rattle.json_text.proofs.Texts.{text-read}
-use Rattle.json.specs.Names.{Fresh}
-use Rattle.json.proofs.escaped_name.Statement.{statement}
-use Rattle.json.proofs.escaped_name.Tie as tie
+use Rattle.json_names.specs.Names.{Fresh}
+use Rattle.json_names.proofs.escaped_name.Statement.{statement}
+use Rattle.json_names.proofs.escaped_name.Tie as tie
 
 pub escaped-name-spec : {M : Type 1} → statement M
 escaped-name-spec =

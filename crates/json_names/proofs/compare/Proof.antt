@@ -1,10 +1,10 @@
 use mathlib.Core.Path.{sym, _∙_}
 use Prim.Native.Nat.{_-_}
 use borrow.Author.Needs.{needs}
-use Rattle.json.proofs.Names.{smaller-other}
+use Rattle.json_names.proofs.Names.{smaller-other}
 use Rattle.laws.specs.TextLaws.{equal-true}
-use Rattle.json.proofs.compare.Statement.{statement}
-use Rattle.json.proofs.compare.Tie as tie
+use Rattle.json_names.proofs.compare.Statement.{statement}
+use Rattle.json_names.proofs.compare.Tie as tie
 
 pub compare-spec : {M : Type 1} → statement M
 compare-spec =

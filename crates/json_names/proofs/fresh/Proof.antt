@@ -1,8 +1,8 @@
 use mathlib.Core.Path.{refl}
 use Prim.Native.Nat.{_-_}
 use borrow.Author.Needs.{needs}
-use Rattle.json.proofs.fresh.Statement.{statement}
-use Rattle.json.proofs.fresh.Tie as tie
+use Rattle.json_names.proofs.fresh.Statement.{statement}
+use Rattle.json_names.proofs.fresh.Tie as tie
 
 pub fresh-spec : {M : Type 1} → statement M
 fresh-spec =

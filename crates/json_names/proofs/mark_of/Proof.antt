@@ -3,10 +3,10 @@ use Prim.Native.Nat.{_-_}
 use lib.ListN.{length, drop}
 use native.Mathlib.Omega.{arith}
 use borrow.Author.Needs.{needs}
-use Rattle.json.specs.Names.{markOf}
-use Rattle.json.proofs.Names.{mark-on, mark-done}
-use Rattle.json.proofs.mark_of.Statement.{statement}
-use Rattle.json.proofs.mark_of.Tie as tie
+use Rattle.json_names.specs.Names.{markOf}
+use Rattle.json_names.proofs.Names.{mark-on, mark-done}
+use Rattle.json_names.proofs.mark_of.Statement.{statement}
+use Rattle.json_names.proofs.mark_of.Tie as tie
 
 abbrev Inv-loop : tie.InvT-loop
 Inv-loop t h₀ i₀ h i = markOf 0 t ≡ markOf h (drop i t)

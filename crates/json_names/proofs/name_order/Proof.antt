@@ -1,8 +1,8 @@
 use Prim.Native.Nat.{_-_}
 use borrow.Author.Needs.{needs}
-use Rattle.json.proofs.Names.{by-mark, by-mark-behind, by-text}
-use Rattle.json.proofs.name_order.Statement.{statement}
-use Rattle.json.proofs.name_order.Tie as tie
+use Rattle.json_names.proofs.Names.{by-mark, by-mark-behind, by-text}
+use Rattle.json_names.proofs.name_order.Statement.{statement}
+use Rattle.json_names.proofs.name_order.Tie as tie
 
 pub name-order-spec : {M : Type 1} → statement M
 name-order-spec =

@@ -2,19 +2,18 @@
 use mathlib.Core.Path.{_≡_}
 use Prim.Native.Nat.{ℕ, _+_, _-_, _*_, _%_, _<_, _≤_}
 use mathlib.Core.Bool.{true, false}
-use mathlib.Core.List.{List, [], _∷_}
-use lib.ListN.{drop, getD}
-use lib.Dec.{eqb, ltb}
+use mathlib.Core.List.{List, [], _∷_, _++_}
+use lib.ListN.{length, take, drop, getD}
+use lib.Dec.{ltb, leb}
 use Rattle.definition.specs.Text.{if_then_else_, isOneOf, smaller}
-use Rattle.definition.specs.Json.{Read, got, fault, andThen, skipSpace, quoted, memberName}
+use Rattle.definition.specs.Json.{Read, got, fault, quoted, memberName}
 use Rattle.json_text.specs.Scanned.{faultOf}
-use Rattle.json_scalar.specs.Scalars.{colonAt}
-use Rattle.json.specs.declared.Order.{Order}
-use Rattle.json.specs.declared.Order.the-variants.{Before, Same, Behind}
-use Rattle.json.specs.declared.Spot.{Spot}
-use Rattle.json.specs.declared.Spot.the-variants.{At, Taken}
-use Rattle.json.specs.declared.Name.{Name}
-use Rattle.json.specs.declared.Name.the-variants.{New, Fault}
+use Rattle.json_names.specs.declared.Order.{Order}
+use Rattle.json_names.specs.declared.Order.the-variants.{Before, Same, Behind}
+use Rattle.json_names.specs.declared.Spot.{Spot}
+use Rattle.json_names.specs.declared.Spot.the-variants.{At, Taken}
+use Rattle.json_names.specs.declared.Name.{Name}
+use Rattle.json_names.specs.declared.Name.the-variants.{New, Fault}
 use Rattle.json_text.specs.declared.Fault.the-variants.{Twice}
 
 -- a name's mark: equal names have equal marks
@@ -50,20 +49,18 @@ abbrev pub Spotted : (ℕ → List ℕ) → ℕ → List (List ℕ) → List ℕ
 Spotted texts k ns key (At i) = Fits texts k i key × (isOneOf ns key ≡ false)
 Spotted texts k ns key Taken = isOneOf ns key ≡ true
 
--- x put at a place, and what stood from there on moved up
-unfoldable pub shifted : {A : Type 0} → (ℕ → A) → ℕ → A → ℕ → A
-shifted f at x i = if ltb i at then f i else if eqb i at then x else f (i - 1)
+-- how many of k names two tables hold: all, or none where one of the tables is shorter
+unfoldable pub held : List ℕ → List ℕ → ℕ → ℕ
+held ps hs k = if leb k (length ps) then if leb k (length hs) then k else 0 else 0
 
-pub record Inserted (a b : List ℕ) (k at x : ℕ) : Type 0 where
-  pub is : (i : ℕ) → i ≤ k → getD b i 0 ≡ shifted (λ j. getD a j 0) at x i
+-- x put at a place among the first k numbers: those from there on move up by one, the last of them over the number behind them; the table as it
+-- was where it has no such number, or where the place is beyond it
+unfoldable pub inserted : ℕ → ℕ → ℕ → List ℕ → List ℕ
+inserted k at x a = if ltb k (length a) then if leb at k then take at a ++ x ∷ (take (k - at) (drop at a) ++ drop (k + 1) a) else a else a
 
 abbrev pub Fresh : (ℕ → List ℕ) → ℕ → List (List ℕ) → List ℕ → ℕ → Name → Type 0
 Fresh texts k ns key end (New e h at) = (e ≡ end) × ((h ≡ markOf 0 key) × ((isOneOf ns key ≡ false) × Fits texts k at key))
 Fresh texts k ns key end (Fault f) = (f ≡ Twice) × (isOneOf ns key ≡ true)
-
--- a member up to its value
-unfoldable pub keyOf : List (List ℕ) → List ℕ → Read (List ℕ)
-keyOf names s = andThen (memberName names s) λ k r. andThen (colonAt (skipSpace r)) λ u t. got k t
 
 -- the reader x read the name at i, whose mark is h and which belongs at a place among the first k, and leaves the bytes from `end` on
 pub record Key (m : List ℕ) (texts : ℕ → List ℕ) (k : ℕ) (x : Read (List ℕ)) (i end h at : ℕ) : Type 0 where
@@ -77,14 +74,3 @@ pub record Key (m : List ℕ) (texts : ℕ → List ℕ) (k : ℕ) (x : Read (Li
 abbrev pub NameRead : List ℕ → List (List ℕ) → (ℕ → List ℕ) → ℕ → ℕ → Name → Type 0
 NameRead m ns texts k i (New end h at) = Key m texts k (memberName ns (drop i m)) i end h at
 NameRead m ns texts k i (Fault f) = memberName ns (drop i m) ≡ fault (faultOf f)
-
-abbrev pub KeyRead : List ℕ → List (List ℕ) → (ℕ → List ℕ) → ℕ → ℕ → Name → Type 0
-KeyRead m ns texts k i (New end h at) = Key m texts k (keyOf ns (drop i m)) i end h at
-KeyRead m ns texts k i (Fault f) = keyOf ns (drop i m) ≡ fault (faultOf f)
-
--- a name stands at i, and its mark is h
-pub record Named (m : List ℕ) (i h : ℕ) : Type 0 where
-  pub name : List ℕ
-  pub behind : List ℕ
-  pub quote : quoted (drop i m) ≡ got name behind
-  pub mark : h ≡ markOf 0 name

@@ -3,10 +3,10 @@ use mathlib.Core.List.{List}
 use Prim.Native.Nat.{ℕ, _+_, _-_, _<_, _≤_, _/_}
 use native.Mathlib.Omega.{arith}
 use borrow.Author.Needs.{needs}
-use Rattle.json.proofs.Names.{Halved, halved-start, halved-low, halved-high, halved-same, halved-end}
-use Rattle.json.specs.Names.{markOf, Table}
-use Rattle.json.proofs.find.Statement.{statement}
-use Rattle.json.proofs.find.Tie as tie
+use Rattle.json_names.proofs.Names.{Halved, halved-start, halved-low, halved-high, halved-same, halved-end}
+use Rattle.json_names.specs.Names.{markOf, Table}
+use Rattle.json_names.proofs.find.Statement.{statement}
+use Rattle.json_names.proofs.find.Tie as tie
 
 abbrev Inv-loop : tie.InvT-loop
 Inv-loop m key mark names marks count low₀ high₀ low high = (low ≤ high) × ((high ≤ count) × ((ns : List (List ℕ)) (h : Table m names marks count ns) → mark ≡ markOf 0 key → Halved (h .texts) count low high key))
