@@ -11,17 +11,18 @@ use borrow.Author.Tests.{eq-eqb, ne-eqb}
 use Rattle.definition.specs.Text.{if_then_else_}
 use Rattle.definition.specs.Json.{Json, str, arr, obj, Elements, noElement, element, Members, noMember, member, Read, got, fault, malformed, beyond, andThen, skipSpace, quoted, follow, elements, memberName, colon, members, array, object, valueBy, value}
 use Rattle.json_text.specs.Scanned.{faultOf, Reads}
-use Rattle.json.specs.Values.{scalarOf, Next, more, close, neither, afterOf, afterAt}
-use Rattle.json.specs.Names.{Table, Inserted, Key, KeyRead, Named, colonAt, keyOf}
+use Rattle.json_scalar.specs.Scalars.{scalarOf, Next, more, close, neither, afterOf, afterAt, colonAt}
+use Rattle.json_names.specs.Names.{Table, inserted, Key}
+use Rattle.json.specs.Members.{KeyRead, Named, keyOf}
 use Rattle.json_text.specs.declared.Fault as code
 use Rattle.json_text.specs.declared.Fault.the-variants.{Malformed, Beyond}
-use Rattle.json.specs.declared.Name.{Name}
+use Rattle.json_names.specs.declared.Name.{Name}
 use Rattle.json_text.specs.declared.Scan.{Scan}
 use Rattle.json_text.specs.declared.Scan.the-variants.{End, Fault}
-use Rattle.json.specs.declared.Then.{Then}
-use Rattle.json.specs.declared.Then.the-variants.{More, Close, Neither}
+use Rattle.json_scalar.specs.declared.Then.{Then}
+use Rattle.json_scalar.specs.declared.Then.the-variants.{More, Close, Neither}
 use Rattle.json_text.proofs.Rules.{here, past}
-use Rattle.json.proofs.Names.{table-more, table-empty, table-one}
+use Rattle.json_names.proofs.Names.{table-more, table-empty, table-one, inserted-is}
 use Rattle.json_text.proofs.Laws.{faulty, ended, then-fault, then-end, reads-map}
 
 none : {P : Type 0} → ⊥ → P
@@ -238,9 +239,6 @@ module _ {v : List ℕ → Read Json} {m : List ℕ} {G : Scan → Type 0} {ps h
       the-key : Key m (g .table .texts) c (keyOf (g .names) (drop i m)) i from h₁ spot
       the-key = rw kq at (k (g .names) (g .table))
 
-      pub membs-spot : spot ≤ c
-      membs-spot = the-key .fits .within
-
       pub membs-named : Named m i h₁
       membs-named = record { name = the-key .name; behind = the-key .behind; quote = the-key .quote; mark = the-key .mark }
 
@@ -262,10 +260,10 @@ module _ {v : List ℕ → Read Json} {m : List ℕ} {G : Scan → Type 0} {ps h
           unfolding membs-named
           membs-next x z = next x (z membs-named)
 
-          pub membs-more : {j : ℕ} {ps′ hs′ : List ℕ} → t ≡ More j → Inserted ps ps′ c spot i → Inserted hs hs′ c spot h₁ → Membs v m G ps′ hs′ j (c + 1)
-          membs-more x np nh = record {
+          pub membs-more : {j : ℕ} {ps′ hs′ : List ℕ} → t ≡ More j → length ps ≡ 128 → length hs ≡ 128 → ps′ ≡ inserted c spot i ps → hs′ ≡ inserted c spot h₁ hs → Membs v m G ps′ hs′ j (c + 1)
+          membs-more x lp lh np nh = record {
             names = the-key .name ∷ g .names;
-            table = table-more (g .table) (the-key .quote) (the-key .mark) (the-key .fits) np nh;
+            table = rw (np, nh) (table-more (g .table) (the-key .quote) (the-key .mark) (the-key .fits) (inserted-is ps c (omega (arith, lp)) i (the-key .fits .within)) (inserted-is hs c (omega (arith, lh)) h₁ (the-key .fits .within)));
             within = omega arith;
             rest = λ z. next x z;
           }

@@ -1,434 +1,29 @@
 // The values of RFC 8259 at any place of any bytes: where one ends, or its first fault by document 01's limits.
+use json_names::Name;
+use json_scalar::Then;
 use json_text::Fault;
 use json_text::Scan;
-ghost use mathlib.Core.Path.{_≡_};
 ghost use mathlib.Core.List.{List, [], _∷_};
-ghost use Prim.Native.Nat.{ℕ, _≤_, _<_};
+ghost use Prim.Native.Nat.{ℕ, _≤_};
 ghost use lib.ListN.{length, drop};
-ghost use Rattle.definition.specs.Text.{isDigit};
-ghost use Rattle.definition.specs.Json.{isSpace, skipSpace, skipDigits, digits as digitsOf, startsValue, sign as signOf, exponent as exponentOf, fraction as fractionOf, integer as integerOf, word as wordOf, quoted as quotedOf, Read, Json, value as valueOf, array as arrayOf, object as objectOf, elements as elementsOf, members as membersOf, got};
+ghost use Rattle.definition.specs.Json.{skipSpace, Read, Json, value as valueOf, array as arrayOf, object as objectOf, elements as elementsOf, members as membersOf};
 ghost use Rattle.json_text.specs.Scanned.{Reads};
-ghost use Rattle.json.specs.Names.{markOf, rank, Ordered, Table, Spotted, Inserted, Fresh, NameRead, KeyRead, Named, colonAt};
-ghost use Rattle.json.specs.Values.{scalarOf, afterOf, afterAt};
+ghost use Rattle.json_names.specs.Names.{Table};
+ghost use Rattle.json.specs.Members.{KeyRead, Named};
 
 // 01's limit of the members of an object and of the elements of an array.
 pub const MEMBERS: usize = 128;
-
-// White space of JSON.
-fn is_space(b: u8) -> bool
-    ensures { λ r. ⌜ r ≡ isSpace b ⌝ }
-{
-    if b == 32 {
-        return true;
-    }
-    if b == 9 {
-        return true;
-    }
-    if b == 10 {
-        return true;
-    }
-    b == 13
-}
-
-// The place of the first byte from `at` on that is no white space.
-pub fn skip_space(m: &[u8], at: usize) -> usize
-    ensures { λ r. ⌜ skipSpace (drop at (now (m .entry))) ≡ drop r (now (m .entry)) ⌝ }
-{
-    let mut i = at;
-    while i < m.len() {
-        let space = is_space(m[i]);
-        if space {
-            i += 1;
-        } else {
-            return i;
-        }
-    }
-    i
-}
-
-// 0 to 9.
-fn is_digit(b: u8) -> bool
-    ensures { λ r. ⌜ r ≡ isDigit b ⌝ }
-{
-    if b < 48 {
-        return false;
-    }
-    b <= 57
-}
-
-// The place of the first byte from `at` on that is no digit.
-fn skip_digits(m: &[u8], at: usize) -> usize
-    ensures { λ r. ⌜ skipDigits (drop at (now (m .entry))) ≡ drop r (now (m .entry)) ⌝ }
-{
-    let mut i = at;
-    while i < m.len() {
-        let digit = is_digit(m[i]);
-        if digit {
-            i += 1;
-        } else {
-            return i;
-        }
-    }
-    i
-}
-
-// One digit or more.
-fn digits(m: &[u8], at: usize) -> Scan
-    ensures { λ r. ⌜ Reads (now (m .entry)) (digitsOf (drop at (now (m .entry)))) r ⌝ }
-{
-    if at < m.len() {
-        let digit = is_digit(m[at]);
-        if digit {
-            return Scan::End(skip_digits(m, at + 1));
-        }
-    }
-    Scan::Fault(Fault::Malformed)
-}
-
-// Past a sign, if one stands here.
-fn sign(m: &[u8], at: usize) -> usize
-    ensures { λ r. ⌜ signOf (drop at (now (m .entry))) ≡ drop r (now (m .entry)) ⌝ }
-{
-    if at < m.len() {
-        let b = m[at];
-        if b == b'+' {
-            return at + 1;
-        }
-        if b == b'-' {
-            return at + 1;
-        }
-    }
-    at
-}
-
-fn exponent(m: &[u8], at: usize) -> Scan
-    ensures { λ r. ⌜ Reads (now (m .entry)) (exponentOf (drop at (now (m .entry)))) r ⌝ }
-{
-    if at < m.len() {
-        let b = m[at];
-        if b == b'e' {
-            return digits(m, sign(m, at + 1));
-        }
-        if b == b'E' {
-            return digits(m, sign(m, at + 1));
-        }
-    }
-    Scan::End(at)
-}
-
-fn fraction(m: &[u8], at: usize) -> Scan
-    ensures { λ r. ⌜ Reads (now (m .entry)) (fractionOf (drop at (now (m .entry)))) r ⌝ }
-{
-    if at < m.len() {
-        if m[at] == b'.' {
-            let read = digits(m, at + 1);
-            return match read {
-                Scan::Fault(f) => Scan::Fault(f),
-                Scan::End(end) => exponent(m, end),
-            };
-        }
-        return exponent(m, at);
-    }
-    Scan::End(at)
-}
-
-fn integer(m: &[u8], at: usize) -> Scan
-    ensures { λ r. ⌜ Reads (now (m .entry)) (integerOf (drop at (now (m .entry)))) r ⌝ }
-{
-    if at < m.len() {
-        let b = m[at];
-        if b == b'0' {
-            return fraction(m, at + 1);
-        }
-        let digit = is_digit(b);
-        if digit {
-            return fraction(m, skip_digits(m, at + 1));
-        }
-    }
-    Scan::Fault(Fault::Malformed)
-}
-
-// The rest of null, true or false.
-fn word(m: &[u8], at: usize, w: &[u8]) -> Scan
-    ensures { λ r. ⌜ Reads (now (m .entry)) (wordOf (now (w .entry)) (drop at (now (m .entry)))) r ⌝ }
-{
-    let mut i = at;
-    let mut k: usize = 0;
-    while k < w.len() {
-        if i >= m.len() {
-            return Scan::Fault(Fault::Malformed);
-        }
-        if m[i] != w[k] {
-            return Scan::Fault(Fault::Malformed);
-        }
-        i += 1;
-        k += 1;
-    }
-    Scan::End(i)
-}
-
-// A value that is no string and opens no bracket.
-fn scalar(m: &[u8], at: usize) -> Scan
-    ensures { λ r. ⌜ Reads (now (m .entry)) (scalarOf (drop at (now (m .entry)))) r ⌝ }
-{
-    if at < m.len() {
-        let b = m[at];
-        if b == b't' {
-            return word(m, at + 1, b"rue");
-        }
-        if b == b'f' {
-            return word(m, at + 1, b"alse");
-        }
-        if b == b'n' {
-            return word(m, at + 1, b"ull");
-        }
-        if b == b'-' {
-            return integer(m, at + 1);
-        }
-        return integer(m, at);
-    }
-    Scan::Fault(Fault::Malformed)
-}
-
-// A byte with which a value can begin.
-pub fn starts_value(b: u8) -> bool
-    ensures { λ r. ⌜ r ≡ startsValue b ⌝ }
-{
-    let digit = is_digit(b);
-    if digit {
-        return true;
-    }
-    if b == b'"' {
-        return true;
-    }
-    if b == b'{' {
-        return true;
-    }
-    if b == b'[' {
-        return true;
-    }
-    if b == b'-' {
-        return true;
-    }
-    if b == b't' {
-        return true;
-    }
-    if b == b'f' {
-        return true;
-    }
-    b == b'n'
-}
-
-// What stands behind an element or a member: the next one, the end of them, or neither.
-pub enum Then {
-    More(usize),
-    Close(usize),
-    Neither,
-}
-
-fn after(m: &[u8], at: usize, bracket: u8) -> Then
-    ensures { λ r. ⌜ afterOf bracket (skipSpace (drop at (now (m .entry)))) ≡ afterAt (now (m .entry)) r ⌝ }
-{
-    let i = skip_space(m, at);
-    if i < m.len() {
-        let b = m[i];
-        if b == b',' {
-            return Then::More(skip_space(m, i + 1));
-        }
-        if b == bracket {
-            return Then::Close(i + 1);
-        }
-    }
-    Then::Neither
-}
-
-fn wide(b: u8) -> usize
-    ensures { λ r. ⌜ r ≡ b ⌝ }
-{
-    b as usize
-}
-
-// A number that equal texts share: most names differ in it.
-fn mark_of(t: &[u8]) -> usize
-    ensures { λ r. ⌜ r ≡ markOf 0 (now (t .entry)) ⌝ }
-{
-    let mut h: usize = 0;
-    let mut i = 0;
-    while i < t.len() {
-        h = h % 0x100000000000000 * 131 + wide(t[i]);
-        i += 1;
-    }
-    h
-}
-
-// How a name stands to another.
-enum Order {
-    Before,
-    Same,
-    Behind,
-}
-
-fn compare(a: &[u8], b: &[u8]) -> Order
-    ensures { λ r. ⌜ Ordered (now (a .entry)) (now (b .entry)) r ⌝ }
-{
-    let same = text::equal(a, b);
-    if same {
-        return Order::Same;
-    }
-    let less = text::less(a, b);
-    if less {
-        return Order::Before;
-    }
-    Order::Behind
-}
-
-// The order of the string at a place, known to be good, and the text `key`.
-fn text_order(m: &[u8], at: usize, key: &[u8]) -> Order
-    ensures { λ r. ⌜ ((t s : List ℕ) → quotedOf (drop at (now (m .entry))) ≡ got t s → Ordered t (now (key .entry)) r) ⌝ }
-{
-    let mut w = [0u8; 1024];
-    let t = json_text::read_text(m, at, &mut w);
-    compare(json_text::text_at(m, &w, t), key)
-}
-
-// The order of the name at a place and the name `key`: by their marks, and by their texts where these are equal.
-fn name_order(m: &[u8], at: usize, theirs: usize, key: &[u8], mark: usize) -> Order
-    ensures { λ r. ⌜ ((t s : List ℕ) → quotedOf (drop at (now (m .entry))) ≡ got t s → theirs ≡ markOf 0 t → mark ≡ markOf 0 (now (key .entry)) → Ordered (rank t) (rank (now (key .entry))) r) ⌝ }
-{
-    if theirs < mark {
-        return Order::Before;
-    }
-    if mark < theirs {
-        return Order::Behind;
-    }
-    text_order(m, at, key)
-}
-
-// Where a name belongs among the names before it, which stand in their order; or that it is one of them.
-enum Spot {
-    At(usize),
-    Taken,
-}
-
-// By halves: the names below `low` come before the key, and those from `high` on behind it.
-fn find(m: &[u8], key: &[u8], mark: usize, names: &[usize], marks: &[usize], count: usize) -> Spot
-    requires { ⌜ (count ≤ length (now names)) × (count ≤ length (now marks)) ⌝ }
-    ensures { λ r. ⌜ ((ns : List (List ℕ)) (h : Table (now (m .entry)) (now (names .entry)) (now (marks .entry)) count ns) → mark ≡ markOf 0 (now (key .entry)) → Spotted (h .texts) count ns (now (key .entry)) r) ⌝ }
-{
-    let mut low: usize = 0;
-    let mut high = count;
-    while low < high {
-        let middle = low + (high - low) / 2;
-        let o = name_order(m, names[middle], marks[middle], key, mark);
-        match o {
-            Order::Same => return Spot::Taken,
-            Order::Before => {
-                low = middle + 1;
-                continue;
-            }
-            Order::Behind => {
-                high = middle;
-            }
-        }
-    }
-    Spot::At(low)
-}
-
-// Puts x at a place of the first `count` numbers; those from there on move up.
-fn insert(a: &mut [usize], count: usize, at: usize, x: usize)
-    requires { ⌜ (at ≤ count) × (count < length (now a)) ⌝ }
-    ensures { λ _. ⌜ Inserted (now (a .entry)) (now (a .exit)) count at x ⌝ }
-{
-    let mut i = count;
-    while i > at {
-        a[i] = a[i - 1];
-        i -= 1;
-    }
-    a[at] = x;
-}
-
-// Where a member's name ends, or where its value begins, with the name's mark and its place among the names; or the fault.
-enum Name {
-    New(usize, usize, usize),
-    Fault(Fault),
-}
-
-// A name that ends at a place, if it is none of the names before it.
-fn fresh(m: &[u8], key: &[u8], end: usize, names: &[usize], marks: &[usize], count: usize) -> Name
-    requires { ⌜ (count ≤ length (now names)) × (count ≤ length (now marks)) ⌝ }
-    ensures { λ r. ⌜ ((ns : List (List ℕ)) (h : Table (now (m .entry)) (now (names .entry)) (now (marks .entry)) count ns) → Fresh (h .texts) count ns (now (key .entry)) end r) ⌝ }
-{
-    let mark = mark_of(key);
-    let spot = find(m, key, mark, names, marks, count);
-    match spot {
-        Spot::Taken => Name::Fault(Fault::Twice),
-        Spot::At(i) => Name::New(end, mark, i),
-    }
-}
-
-// A name that has an escape.
-fn escaped_name(
-    m: &[u8],
-    at: usize,
-    end: usize,
-    names: &[usize],
-    marks: &[usize],
-    count: usize,
-) -> Name
-    requires { ⌜ (count ≤ length (now names)) × (count ≤ length (now marks)) ⌝ }
-    ensures { λ r. ⌜ ((ns : List (List ℕ)) (h : Table (now (m .entry)) (now (names .entry)) (now (marks .entry)) count ns) (k : List ℕ) → quotedOf (drop at (now (m .entry))) ≡ got k (drop end (now (m .entry))) → Fresh (h .texts) count ns k end r) ⌝ }
-{
-    let mut w = [0u8; 1024];
-    let t = json_text::read_text(m, at, &mut w);
-    fresh(m, json_text::text_at(m, &w, t), end, names, marks, count)
-}
-
-// A member's name, which is none of the names before it.
-fn member_name(m: &[u8], at: usize, names: &[usize], marks: &[usize], count: usize) -> Name
-    requires { ⌜ (count ≤ length (now names)) × (count ≤ length (now marks)) ⌝ }
-    ensures { λ r. ⌜ ((ns : List (List ℕ)) (h : Table (now (m .entry)) (now (names .entry)) (now (marks .entry)) count ns) → NameRead (now (m .entry)) ns (h .texts) count at r) ⌝ }
-{
-    let read = json_text::quoted(m, at);
-    match read {
-        Scan::Fault(f) => Name::Fault(f),
-        Scan::End(end) => {
-            if at >= m.len() {
-                return Name::Fault(Fault::Malformed);
-            }
-            let stop = json_text::plain_end(m, at + 1);
-            if stop < m.len() {
-                if m[stop] == b'"' {
-                    return fresh(m, &m[at + 1..stop], end, names, marks, count);
-                }
-            }
-            escaped_name(m, at, end, names, marks, count)
-        }
-    }
-}
-
-// The colon behind a name: where the value begins.
-fn colon(m: &[u8], at: usize) -> Scan
-    ensures { λ r. ⌜ Reads (now (m .entry)) (colonAt (skipSpace (drop at (now (m .entry))))) r ⌝ }
-{
-    let i = skip_space(m, at);
-    if i < m.len() {
-        if m[i] == b':' {
-            return Scan::End(skip_space(m, i + 1));
-        }
-    }
-    Scan::Fault(Fault::Malformed)
-}
 
 // A member up to its value.
 fn key(m: &[u8], at: usize, names: &[usize], marks: &[usize], count: usize) -> Name
     requires { ⌜ (count ≤ length (now names)) × (count ≤ length (now marks)) ⌝ }
     ensures { λ r. ⌜ ((ns : List (List ℕ)) (h : Table (now (m .entry)) (now (names .entry)) (now (marks .entry)) count ns) → KeyRead (now (m .entry)) ns (h .texts) count at r) ⌝ }
 {
-    let name = member_name(m, at, names, marks, count);
+    let name = json_names::member_name(m, at, names, marks, count);
     match name {
         Name::Fault(f) => Name::Fault(f),
         Name::New(end, mark, spot) => {
-            let start = colon(m, end);
+            let start = json_scalar::colon(m, end);
             match start {
                 Scan::Fault(f) => Name::Fault(f),
                 Scan::End(value) => Name::New(value, mark, spot),
@@ -458,7 +53,7 @@ pub fn value(m: &[u8], at: usize, depth: usize) -> Scan
             }
             return object(m, at + 1, depth - 1);
         }
-        return scalar(m, at);
+        return json_scalar::scalar(m, at);
     }
     Scan::Fault(Fault::Malformed)
 }
@@ -467,7 +62,7 @@ pub fn value(m: &[u8], at: usize, depth: usize) -> Scan
 fn array(m: &[u8], at: usize, depth: usize) -> Scan
     ensures { λ r. ⌜ Reads (now (m .entry)) (arrayOf (valueOf depth) (skipSpace (drop at (now (m .entry))))) r ⌝ }
 {
-    let mut i = skip_space(m, at);
+    let mut i = json_scalar::skip_space(m, at);
     if i >= m.len() {
         return Scan::Fault(Fault::Malformed);
     }
@@ -480,7 +75,7 @@ fn array(m: &[u8], at: usize, depth: usize) -> Scan
         match read {
             Scan::Fault(f) => return Scan::Fault(f),
             Scan::End(end) => {
-                let then = after(m, end, b']');
+                let then = json_scalar::after(m, end, b']');
                 match then {
                     Then::Neither => return Scan::Fault(Fault::Malformed),
                     Then::Close(next) => return Scan::End(next),
@@ -500,7 +95,7 @@ fn array(m: &[u8], at: usize, depth: usize) -> Scan
 fn object(m: &[u8], at: usize, depth: usize) -> Scan
     ensures { λ r. ⌜ Reads (now (m .entry)) (objectOf (valueOf depth) (skipSpace (drop at (now (m .entry))))) r ⌝ }
 {
-    let i = skip_space(m, at);
+    let i = json_scalar::skip_space(m, at);
     if i >= m.len() {
         return Scan::Fault(Fault::Malformed);
     }
@@ -516,7 +111,7 @@ fn object(m: &[u8], at: usize, depth: usize) -> Scan
             match read {
                 Scan::Fault(f) => Scan::Fault(f),
                 Scan::End(end) => {
-                    let then = after(m, end, b'}');
+                    let then = json_scalar::after(m, end, b'}');
                     match then {
                         Then::Neither => Scan::Fault(Fault::Malformed),
                         Then::Close(next) => Scan::End(next),
@@ -548,13 +143,13 @@ fn more_members(m: &[u8], at: usize, depth: usize, first: usize, mark: usize) ->
                 match read {
                     Scan::Fault(f) => return Scan::Fault(f),
                     Scan::End(end) => {
-                        let then = after(m, end, b'}');
+                        let then = json_scalar::after(m, end, b'}');
                         match then {
                             Then::Neither => return Scan::Fault(Fault::Malformed),
                             Then::Close(next) => return Scan::End(next),
                             Then::More(next) => {
-                                insert(&mut names, count, spot, i);
-                                insert(&mut marks, count, spot, other);
+                                json_names::insert(&mut names, count, spot, i);
+                                json_names::insert(&mut marks, count, spot, other);
                                 count += 1;
                                 i = next;
                             }
@@ -572,7 +167,7 @@ fn extra_element(m: &[u8], at: usize) -> Scan
     ensures { λ r. ⌜ ((v : List ℕ → Read Json) → Reads (now (m .entry)) (elementsOf v 0 (drop at (now (m .entry)))) r) ⌝ }
 {
     if at < m.len() {
-        let starts = starts_value(m[at]);
+        let starts = json_scalar::starts_value(m[at]);
         if starts {
             return Scan::Fault(Fault::Beyond);
         }

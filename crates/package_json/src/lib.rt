@@ -52,12 +52,12 @@ pub fn check(m: &[u8]) -> Checked
         return Checked::Fault(Fault::Beyond);
     }
     let from = mark(m);
-    let start = json::skip_space(m, from);
+    let start = json_scalar::skip_space(m, from);
     let read = json::value(m, start, DEPTH);
     match read {
         Scan::Fault(f) => Checked::Fault(f),
         Scan::End(end) => {
-            let last = json::skip_space(m, end);
+            let last = json_scalar::skip_space(m, end);
             if last < m.len() {
                 return Checked::Fault(Fault::Malformed);
             }
@@ -120,7 +120,7 @@ pub fn kind_at(m: &[u8], at: usize) -> Kind
     if b == b'{' {
         return Kind::Object;
     }
-    let starts = json::starts_value(b);
+    let starts = json_scalar::starts_value(b);
     if starts {
         return Kind::Scalar;
     }
@@ -248,7 +248,7 @@ fn behind(m: &[u8], at: usize, c: u8) -> Cursor
 {
     if at < m.len() {
         if m[at] == c {
-            return Cursor::At(json::skip_space(m, at + 1));
+            return Cursor::At(json_scalar::skip_space(m, at + 1));
         }
     }
     Cursor::Nothing
@@ -294,7 +294,7 @@ pub fn next_element(m: &[u8], at: usize) -> Cursor
     let end = value_end(m, at);
     match end {
         Cursor::Nothing => Cursor::Nothing,
-        Cursor::At(i) => behind(m, json::skip_space(m, i), b','),
+        Cursor::At(i) => behind(m, json_scalar::skip_space(m, i), b','),
     }
 }
 
@@ -316,7 +316,7 @@ pub fn member_value(m: &[u8], at: usize) -> Cursor
     let end = name_end(m, at);
     match end {
         Cursor::Nothing => Cursor::Nothing,
-        Cursor::At(i) => behind(m, json::skip_space(m, i), b':'),
+        Cursor::At(i) => behind(m, json_scalar::skip_space(m, i), b':'),
     }
 }
 

@@ -2,7 +2,7 @@ use mathlib.Core.Path.{_≡_, refl, sym, _∙_}
 use Prim.Native.Nat.{_-_, _+_, _*_}
 use lib.ListN.{drop, length, length-set}
 use Rattle.definition.specs.Json.{skipSpace, value as valueOf}
-use Rattle.json.proofs.Values.{Elems, elems-over, elems-fault, elems-neither, elems-close, elems-more, Behind, Membs, membs-first, membs-second, membs-over, membs-key, membs-named, membs-spot, membs-fault, membs-neither, membs-close, membs-next, membs-more, array-cut, array-none, array-some, object-cut, object-none, value-end, value-text, value-scalar, array-deep, object-deep, value-array, value-object}
+use Rattle.json.proofs.Values.{Elems, elems-over, elems-fault, elems-neither, elems-close, elems-more, Behind, Membs, membs-first, membs-second, membs-over, membs-key, membs-named, membs-fault, membs-neither, membs-close, membs-next, membs-more, array-cut, array-none, array-some, object-cut, object-none, value-end, value-text, value-scalar, array-deep, object-deep, value-array, value-object}
 use borrow.Author.Needs.{needs}
 use native.Mathlib.Omega.{arith}
 use Prim.Native.Nat.{ℕ, _<_}
@@ -20,13 +20,13 @@ use Rattle.json.proofs.+array+more_members+object+value.Lts-object as o
 use Rattle.json.proofs.value.Reads as value
 use Rattle.json.proofs.value.Kinds as value-kinds
 use Rattle.json.proofs.+array+more_members+object+value.Lts-value as value-lts
-use Rattle.json.proofs.after.Reads as after-reads
+use Rattle.json_scalar.proofs.after.Reads as after-reads
 use Rattle.json.proofs.extra_element.Reads as extra-element-reads
 use Rattle.json.proofs.extra_member.Reads as extra-member-reads
-use Rattle.json.proofs.insert.Reads as insert-reads
+use Rattle.json_names.proofs.insert.Reads as insert-reads
 use Rattle.json.proofs.key.Reads as key-reads
-use Rattle.json.proofs.scalar.Reads as scalar-reads
-use Rattle.json.proofs.skip_space.Reads as skip-space-reads
+use Rattle.json_scalar.proofs.scalar.Reads as scalar-reads
+use Rattle.json_scalar.proofs.skip_space.Reads as skip-space-reads
 use Rattle.json_text.proofs.quoted.Reads as quoted-reads
 use Rattle.json.proofs.+array+more_members+object+value.{statement}
 use Rattle.json.proofs.+array+more_members+object+value.Tie.{close}
@@ -151,12 +151,12 @@ pub +array+more-members+object+value-spec : {M : Type 1} → statement M
     (λ c. membs-close (c .before .before .before .before .before .before .before .before .before .before .before .before .before .before .before .loop .inv .1 .1) (c .before .before .before .before .before .before .before .before .before .before .before .before .before .before .loop-test .taken) (c .before .before .before .before .before .before .before .before .before .before .before .key .ensures) (c .before .before .before .before .before .before .before .before .before .start2 .given .1) (c .before .before .before .before .before .before .before .value .ensures) (c .before .before .before .before .before .read2 .given .1) (c .before .before .before .after .ensures) (c .before .then .given .1))
     (λ c. search needs)
     (λ c. sym (c .before .before .before .before .before .before .before .before .before .before .before .before .before .before .before .before .loop .inv .0))
-    (λ c κs. (membs-spot (c .before .before .before .before .before .before .before .before .before .before .before .before .before .before .before .before .loop .inv .1 .1) (c .before .before .before .before .before .before .before .before .before .before .before .before .before .before .before .loop-test .taken) (c .before .before .before .before .before .before .before .before .before .before .before .before .key .ensures) (c .before .before .before .before .before .before .before .before .before .before .start2 .given .1), omega (arith, c .before .before .before .before .before .before .before .before .before .before .before .before .before .before .before .before .loop .inv .0, c .before .before .before .before .before .before .before .before .before .before .before .before .before .before .before .loop-test .taken)))
+    (λ c κs. search needs)
     (λ c. sym (c .before .before .before .before .before .before .before .before .before .before .before .before .before .before .before .before .before .before .before .loop .inv .1 .0))
-    (λ c κs. (membs-spot (c .before .before .before .before .before .before .before .before .before .before .before .before .before .before .before .before .before .before .before .loop .inv .1 .1) (c .before .before .before .before .before .before .before .before .before .before .before .before .before .before .before .before .before .before .loop-test .taken) (c .before .before .before .before .before .before .before .before .before .before .before .before .before .before .before .key .ensures) (c .before .before .before .before .before .before .before .before .before .before .before .before .before .start2 .given .1), omega (arith, c .before .before .before .before .before .before .before .before .before .before .before .before .before .before .before .before .before .before .before .loop .inv .1 .0, c .before .before .before .before .before .before .before .before .before .before .before .before .before .before .before .before .before .before .loop-test .taken)))
+    (λ c κs. search needs)
     (λ c. search needs)
     (λ c. search needs)
-    (λ c. (c .before .before .before .before .insert .kept .0 ∙ c .before .before .before .before .before .before .before .before .before .before .before .before .before .before .before .before .before .before .before .before .before .loop .inv .0, (c .before .insert2 .kept .0 ∙ c .before .before .before .before .before .before .before .before .before .before .before .before .before .before .before .before .before .before .before .before .before .loop .inv .1 .0, membs-more (c .before .before .before .before .before .before .before .before .before .before .before .before .before .before .before .before .before .before .before .before .before .loop .inv .1 .1) (c .before .before .before .before .before .before .before .before .before .before .before .before .before .before .before .before .before .before .before .before .loop-test .taken) (c .before .before .before .before .before .before .before .before .before .before .before .before .before .before .before .before .before .key .ensures) (c .before .before .before .before .before .before .before .before .before .before .before .before .before .before .before .start2 .given .1) (c .before .before .before .before .before .before .before .before .before .before .before .before .before .value .ensures) (c .before .before .before .before .before .before .before .before .before .before .before .read2 .given .1) (c .before .before .before .before .before .before .before .before .before .after .ensures) (c .before .before .before .before .before .before .before .then2 .given .1) (c .before .before .before .before .insert .ensures) (c .before .insert2 .ensures))))
+    (λ c. (c .before .before .before .before .insert .kept .0 ∙ c .before .before .before .before .before .before .before .before .before .before .before .before .before .before .before .before .before .before .before .before .before .loop .inv .0, (c .before .insert2 .kept .0 ∙ c .before .before .before .before .before .before .before .before .before .before .before .before .before .before .before .before .before .before .before .before .before .loop .inv .1 .0, membs-more (c .before .before .before .before .before .before .before .before .before .before .before .before .before .before .before .before .before .before .before .before .before .loop .inv .1 .1) (c .before .before .before .before .before .before .before .before .before .before .before .before .before .before .before .before .before .before .before .before .loop-test .taken) (c .before .before .before .before .before .before .before .before .before .before .before .before .before .before .before .before .before .key .ensures) (c .before .before .before .before .before .before .before .before .before .before .before .before .before .before .before .start2 .given .1) (c .before .before .before .before .before .before .before .before .before .before .before .before .before .value .ensures) (c .before .before .before .before .before .before .before .before .before .before .before .read2 .given .1) (c .before .before .before .before .before .before .before .before .before .after .ensures) (c .before .before .before .before .before .before .before .then2 .given .1) (c .before .before .before .before .before .before .before .before .before .before .before .before .before .before .before .before .before .before .before .before .before .loop .inv .0) (c .before .before .before .before .before .before .before .before .before .before .before .before .before .before .before .before .before .before .before .before .before .loop .inv .1 .0) (c .before .before .before .before .insert .ensures) (c .before .insert2 .ensures))))
     (λ c κs. search needs)
     (λ c. membs-over (c .before .before .loop .inv .1 .1) (c .before .loop-test .left) (c .extra-member .ensures _)))
     (λ t. object-lts.spec (
