@@ -1,22 +1,22 @@
 -- The loops over the keys of an object: what they begin with, and the best of those that match.
 use mathlib.Core.Path.{_≡_, refl, sym, _∙_, ap}
-use mathlib.Core.Bool.{Bool, true, false, not, _&&_, _||_}
-use mathlib.Core.List.{List, [], _∷_}
+use mathlib.Core.Bool.{Bool, true, false, _||_}
+use mathlib.Core.List.{List, []}
 use mathlib.Core.Option.{Option, none, some}
-use Prim.Native.Nat.{ℕ, zero, suc, _+_, _-_, _<_, _≤_, Ordering, Ordering·lt, Ordering·eq, Ordering·gt}
+use Prim.Native.Nat.{ℕ, _-_, _≤_, Ordering, Ordering·lt, Ordering·eq, Ordering·gt}
 use native.Mathlib.Omega.{arith}
-use lib.ListN.{length, drop, take}
-use Rattle.definition.specs.Text.{if_then_else_, star, contains}
+use lib.ListN.{drop}
+use Rattle.definition.specs.Text.{contains}
 use Rattle.definition.specs.Json.{Json, Members, noMember, member, got, quoted}
-use Rattle.definition.specs.Exports.{Entry, entries, anyKey, isDotKey, isSubpathKey, baseLength, PATTERN-KEY-COMPARE, isGt, patternMatch, isMatch, matches, bestKey, better, best}
-use Rattle.exports.specs.Places.{Stands, MembersAt, MembersFrom}
+use Rattle.definition.specs.Exports.{Entry, entries, anyKey, baseLength, PATTERN-KEY-COMPARE, isGt, patternMatch, isMatch, matches, bestKey, better, best}
+use Rattle.package_target.specs.Places.{Stands, MembersAt, MembersFrom}
 use Rattle.package_json.specs.declared.Cursor.{Cursor}
 use Rattle.package_json.specs.declared.Cursor.the-variants.{At, Nothing as Done}
-use Rattle.exports.proofs.Places.{One, one, none-left}
+use Rattle.package_target.proofs.Places.{One, one, none-left}
 use Rattle.exports.specs.declared.KeyMarks.{KeyMarks}
 use Rattle.exports.specs.declared.Best.{Best}
 use Rattle.targets.specs.Keys.{rankOf}
-use Rattle.exports.specs.Chosen.{aKey, joinedKeys, keysOf, Chosen, BestOf}
+use Rattle.exports.specs.Chosen.{aKey, joinedKeys, keysOf, BestOf}
 
 -- the member at a cursor
 module _ (m : List ℕ) (n : ℕ) (others : Members) (cursor : Cursor) (from : MembersFrom m 14 n others cursor) where

@@ -2,20 +2,19 @@
 use mathlib.Core.Path.{_≡_, refl, sym, _∙_, ap}
 use mathlib.Core.Bool.{Bool, true, false, _&&_}
 use mathlib.Core.List.{List, [], _∷_}
-use mathlib.Core.Option.{Option, none, some}
-use Prim.Native.Nat.{ℕ, zero, suc, _+_, _-_, _<_, _≤_}
+use mathlib.Core.Option.{none, some}
+use Prim.Native.Nat.{ℕ, zero, suc, _-_, _≤_}
 use native.Mathlib.Omega.{arith}
 use lib.ListN.{length, drop}
 use lib.Dec.{eqb}
 use borrow.Author.Tests.{eq-eqb, ne-eqb, eqb-true, eqb-false}
-use Rattle.definition.specs.Text.{if_then_else_, equal}
+use Rattle.definition.specs.Text.{equal}
 use Rattle.definition.specs.Json.{Json, scalar, str, arr, obj, Elements, noElement, element, Members, noMember, member, Read, got, value, valueBy, quoted}
 use Rattle.definition.specs.JsonAt as json
-use Rattle.definition.specs.JsonAt.{aScalar, aString, anArray, anObject, kindAt, thenAt, firstMember, firstElement, nextElement, memberValue, nextMember, getAt, findMember, isText, nameIs, textAt}
+use Rattle.definition.specs.JsonAt.{aScalar, aString, anArray, anObject, kindAt, firstMember, firstElement, nextElement, memberValue, nextMember, isText, nameIs, textAt}
 use Rattle.laws.specs.JsonAtLaws as at
-use Rattle.laws.specs.JsonAtLaws.{members-there, no-members, elements-there, no-elements, text-shape, array-shape, object-shape, scalar-shape, finds, finds-none}
+use Rattle.laws.specs.JsonAtLaws.{members-there, no-members, elements-there, no-elements, text-shape, array-shape, object-shape, scalar-shape}
 use Rattle.laws.specs.JsonSoundLaws.{quoted-sound}
-use Rattle.definition.specs.Exports.{get, entries}
 use Rattle.package_json.specs.declared.Cursor.{Cursor}
 use Rattle.package_json.specs.declared.Cursor.the-variants.{At, Nothing}
 use Rattle.json_text.specs.declared.TextAt.{TextAt}
@@ -23,11 +22,11 @@ use Rattle.package_json.specs.declared.Kind as kind
 use Rattle.package_json.specs.Cursors as cursors
 use Rattle.package_json.specs.Cursors.{placed}
 use Rattle.json_text.specs.Texts.{textOf, told, orEmpty}
-use Rattle.exports.specs.declared.Kind.{Kind}
-use Rattle.exports.specs.declared.Kind.the-variants.{Scalar, String, Array, Object}
+use Rattle.package_target.specs.declared.Kind.{Kind}
+use Rattle.package_target.specs.declared.Kind.the-variants.{Scalar, String, Array, Object}
 use Rattle.targets.specs.Contexts.{readText, stringAt}
 use Rattle.targets.proofs.Contexts.{text-read}
-use Rattle.exports.specs.Places.{Stands, MembersAt, ElementsAt, MembersFrom, ElementsFrom, kindOf, Finds}
+use Rattle.package_target.specs.Places.{Stands, MembersAt, ElementsAt, MembersFrom, ElementsFrom, kindOf}
 
 none-of : {P : Type 0} → ⊥ → P
 none-of z = absurd z
@@ -47,21 +46,13 @@ elements-from : (m : List ℕ) (d n : ℕ) (js : Elements) (c : Cursor) → at.E
 elements-from m d n js (At i) (elements-there h) = record { here = h }
 elements-from m d n js Nothing h = none-elements h
 
-finds-from : (m : List ℕ) (d : ℕ) (o : Option Json) (c : Cursor) → at.Finds d o (placed m c) → Finds m d o c
-finds-from m d (some j) (At i) (finds h) = record { here = h }
-finds-from m d none Nothing finds-none = tt
-
--- the first of what a bracket opens, and the value of a name
+-- the first of what a bracket opens
 module _ (m : List ℕ) (i : ℕ) (c : Cursor) where
   pub first-members : placed m c ≡ firstMember (drop i m) → (d : ℕ) (ms : Members) → Stands m (suc d) i (obj ms) → MembersFrom m d 128 ms c
   first-members e d ms h = members-from m d 128 ms c (rw e (at.first-member (h .here)))
 
   pub first-elements : placed m c ≡ firstElement (drop i m) → (d : ℕ) (js : Elements) → Stands m (suc d) i (arr js) → ElementsFrom m d 128 js c
   first-elements e d js h = elements-from m d 128 js c (rw e (at.first-element (h .here)))
-
-  pub get-finds : (k : List ℕ) → placed m c ≡ getAt k (drop i m) → (d : ℕ) (ms : Members) → Stands m (suc d) i (obj ms) → Finds m d (get k (entries ms)) c
-  unfolding getAt
-  get-finds k e d ms h = finds-from m d (get k (entries ms)) c (rw e (at.find-here 128 k (at.first-member (h .here))))
 
   -- an element, and the next
   pub element-is : placed m c ≡ nextElement (drop i m) → (d n : ℕ) (j : Json) (js : Elements) → ElementsAt m d n i (element j js) → Stands m d i j × ElementsFrom m d (n - 1) js c

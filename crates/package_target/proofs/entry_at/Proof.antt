@@ -1,9 +1,9 @@
 use borrow.Author.Needs.{needs}
-use mathlib.Core.Path.{_≡_, sym, _∙_, ap}
+use mathlib.Core.Path.{sym, _∙_, ap}
 use Rattle.package_json.specs.Cursors.{placed}
-use Rattle.exports.proofs.Places.{member-is, member-no-value}
-use Rattle.exports.proofs.entry_at.Statement.{statement}
-use Rattle.exports.proofs.entry_at.Tie as tie
+use Rattle.package_target.proofs.Places.{member-is, member-no-value}
+use Rattle.package_target.proofs.entry_at.Statement.{statement}
+use Rattle.package_target.proofs.entry_at.Tie as tie
 
 pub entry-at-spec : {M : Type 1} → statement M
 entry-at-spec =
