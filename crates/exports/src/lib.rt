@@ -94,10 +94,9 @@ fn keys_of(m: &[u8], at: usize, work: &mut [u8]) -> KeyMarks
         match cursor {
             Cursor::Nothing => return keys,
             Cursor::At(i) => {
-                let e = package_target::entry_at(m, i);
                 let key = key_at(m, i, work);
                 keys = joined(keys, key);
-                cursor = e.next;
+                cursor = package_json::next_member(m, i);
                 left -= 1;
             }
         }
@@ -167,10 +166,9 @@ fn best_key(m: &[u8], at: usize, subpath: &[u8], work: &mut [u8]) -> Best
         match cursor {
             Cursor::Nothing => return best,
             Cursor::At(i) => {
-                let e = package_target::entry_at(m, i);
-                let value = e.value;
+                let value = package_target::value_at(m, i);
                 best = better(m, i, value, subpath, best, work);
-                cursor = e.next;
+                cursor = package_json::next_element(m, value);
                 left -= 1;
             }
         }

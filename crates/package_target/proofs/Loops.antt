@@ -2,6 +2,7 @@
 use mathlib.Core.Path.{_≡_, refl, sym, _∙_, ap}
 use mathlib.Core.Bool.{Bool, true, false, _||_}
 use mathlib.Core.List.{List, []}
+use mathlib.Core.Option.{some}
 use Prim.Native.Nat.{ℕ, suc, _+_, _-_, _<_, _≤_}
 use native.Mathlib.Omega.{arith}
 use lib.ListN.{length, drop, take, getD, drop-of-length-le}
@@ -9,7 +10,7 @@ use lib.Seq.{drop-cons}
 use native.Mathlib.Numerals.{add-one}
 use Rattle.definition.specs.Text.{text as bytes, if_then_else_, equal, isOneOf}
 use Rattle.definition.specs.Json.{Json, scalar, str, arr, obj, Elements, Members, member, got, quoted}
-use Rattle.definition.specs.JsonAt.{firstElement, firstMember, nextElement}
+use Rattle.definition.specs.JsonAt.{firstElement, firstMember, nextElement, memberValue}
 use Rattle.definition.specs.Settings.{textsOf}
 use Rattle.definition.specs.Specifier.{parseSpecifier}
 use Rattle.definition.specs.Exports as exports
@@ -19,7 +20,7 @@ use Rattle.package_json.specs.declared.Cursor.{Cursor}
 use Rattle.package_json.specs.declared.Cursor.the-variants.{At, Nothing as Done}
 use Rattle.package_json.specs.Cursors.{placed}
 use Rattle.package_target.specs.declared.Kind.the-variants.{Scalar, String, Array, Object}
-use Rattle.package_target.proofs.Places.{One, one, none-left, OneElement, one-of, no-element-left, array-depth, object-depth, first-elements, first-members, element-is, equal-sym}
+use Rattle.package_target.proofs.Places.{One, one, none-left, OneElement, one-of, no-element-left, array-depth, object-depth, first-elements, first-members, element-is, value-stands, behind-value, equal-sym}
 use Rattle.targets.specs.declared.Outcome.{Outcome}
 use Rattle.targets.specs.declared.Outcome.the-variants.{Found, Nothing, Empty, InvalidTarget, NotExportedMatch, NotExported, ConfigMixed, ConfigDirectory, OverLong}
 use Rattle.targets.specs.declared.Context.{Context}
@@ -221,13 +222,16 @@ module _ {m : List ℕ} {d : ℕ} {q : Request} {n : ℕ} {cursor : Cursor} {c :
       go Done e = object-done e
       go (At i) e = none (none-left (rw e at (g .from)) (let z : n ≡ 0 = omega arith in z))
 
-  module _ {i : ℕ} (e : cursor ≡ At i) (v : ℕ) (next : Cursor) (f : (n : ℕ) (k : List ℕ) (j : Json) (ms : Members) → MembersAt m d n i (member k j ms) → Stands m d v j × MembersFrom m d (n - 1) ms next)
+  module _ {i : ℕ} (e : cursor ≡ At i) (v : ℕ) (f : (s : List ℕ) → memberValue (drop i m) ≡ some s → drop v m ≡ s)
       (settings : List ℕ) (s : q .conditions ≡ textsOf settings 0) (b : Bool) (p : (k s : List ℕ) → quoted (drop i m) ≡ got k s → b ≡ (equal k (bytes "default") || isOneOf (textsOf settings 0) k)) where
     that : One m d n i (g .others)
     that = one (rw e at (g .from))
 
-    both-that : Stands m d v (that .val) × MembersFrom m d (n - 1) (that .others) next
-    both-that = f n (that .name) (that .val) (that .others) (rw (that .is) at (rw e at (g .from)))
+    that-here : MembersAt m d n i (member (that .name) (that .val) (that .others))
+    that-here = rw (that .is) at (rw e at (g .from))
+
+    next-that : (next : Cursor) → placed m next ≡ nextElement (drop v m) → MembersFrom m d (n - 1) (that .others) next
+    next-that = behind-value m i v f d n (that .name) (that .val) (that .others) that-here
 
     holds-that : b ≡ (equal (that .name) (bytes "default") || isOneOf (q .conditions) (that .name))
     holds-that =
@@ -237,20 +241,20 @@ module _ {m : List ℕ} {d : ℕ} {q : Request} {n : ℕ} {cursor : Cursor} {c :
     unfolding eachCondition
     stepped = g .same ∙ ap (λ ms. eachCondition q ms c) (that .is) ∙ ap (λ y. if y then orGoOn (PACKAGE-TARGET-RESOLVE q (that .val) c) (λ d. eachCondition q (that .others) d) else eachCondition q (that .others) c) (sym holds-that)
 
-    pub object-skip : b ≡ false → ObjectLeft m d q (n - 1) next c x
-    object-skip h = record { others = that .others; from = both-that .1; same = stepped ∙ pick-false b (orGoOn (PACKAGE-TARGET-RESOLVE q (that .val) c) (λ d. eachCondition q (that .others) d)) (eachCondition q (that .others) c) h }
+    pub object-skip : b ≡ false → (next : Cursor) → placed m next ≡ nextElement (drop v m) → ObjectLeft m d q (n - 1) next c x
+    object-skip h next l = record { others = that .others; from = next-that next l; same = stepped ∙ pick-false b (orGoOn (PACKAGE-TARGET-RESOLVE q (that .val) c) (λ d. eachCondition q (that .others) d)) (eachCondition q (that .others) c) h }
 
     module _ (h : b ≡ true) (path : List ℕ) (R : Answer) (r : (j : Json) → Stands m d v j → answerOf m q path R ≡ PACKAGE-TARGET-RESOLVE q j c) where
       taken : x ≡ orGoOn (answerOf m q path R) (λ d. eachCondition q (that .others) d)
       taken =
           stepped ∙ pick-true b (orGoOn (PACKAGE-TARGET-RESOLVE q (that .val) c) (λ d. eachCondition q (that .others) d)) (eachCondition q (that .others) c) h
-          ∙ ap (λ y. orGoOn y (λ d. eachCondition q (that .others) d)) (sym (r (that .val) (both-that .0)))
+          ∙ ap (λ y. orGoOn y (λ d. eachCondition q (that .others) d)) (sym (r (that .val) (value-stands m i v f d n (that .name) (that .val) (that .others) that-here)))
 
       pub object-stop : isNothing (R .outcome) ≡ false → x ≡ answerOf m q path R
       object-stop u = taken ∙ go-stop q (contextOf m (R .context)) (take (R .len) path) (R .outcome) (λ d. eachCondition q (that .others) d) u
 
-      pub object-on : isNothing (R .outcome) ≡ true → ObjectLeft m d q (n - 1) next (contextOf m (R .context)) x
-      object-on u = record { others = that .others; from = both-that .1; same = taken ∙ go-on q (contextOf m (R .context)) (take (R .len) path) (R .outcome) (λ d. eachCondition q (that .others) d) u }
+      pub object-on : isNothing (R .outcome) ≡ true → (next : Cursor) → placed m next ≡ nextElement (drop v m) → ObjectLeft m d q (n - 1) next (contextOf m (R .context)) x
+      object-on u next l = record { others = that .others; from = next-that next l; same = taken ∙ go-on q (contextOf m (R .context)) (take (R .len) path) (R .outcome) (λ d. eachCondition q (that .others) d) u }
 
 -- brackets where no depth is left
 module _ {m : List ℕ} {d i : ℕ} {j : Json} (h : Stands m d i j) where

@@ -63,19 +63,34 @@ module _ (m : List ℕ) (i : ℕ) (c : Cursor) where
       let l : x .left ≡ n - 1 = omega (arith, x .count) in
       (record { here = rw a at (x .stands) }, elements-from m d (n - 1) js c (rw e (rw (l, b) at (x .next))))
 
-  -- a member, and the next
-  pub member-is : (v : ℕ) → some (drop v m) ≡ memberValue (drop i m) → placed m c ≡ nextElement (drop v m) → (d n : ℕ) (k : List ℕ) (j : Json) (ms : Members) → MembersAt m d n i (member k j ms) → Stands m d v j × MembersFrom m d (n - 1) ms c
-  unfolding nextMember
-  member-is v f e d n k j ms h =
+  -- the next member
+  pub next-member-is : placed m c ≡ nextMember (drop i m) → (d n : ℕ) (k : List ℕ) (j : Json) (ms : Members) → MembersAt m d n i (member k j ms) → MembersFrom m d (n - 1) ms c
+  next-member-is e d n k j ms h =
       let x = at.member-here (h .here) in
-      let a : x .first ≡ j = cc (x .is) in
       let b : x .others ≡ ms = cc (x .is) in
       let l : x .left ≡ n - 1 = omega (arith, x .count) in
-      let p : x .from ≡ drop v m = cc (x .place, f) in
-      (record { here = rw (p, a) at (x .stands) }, members-from m d (n - 1) ms c (rw e (rw (x .place, p, l, b) at (x .next))))
+      members-from m d (n - 1) ms c (rw e (rw (l, b) at (x .next)))
 
-pub member-no-value : (m : List ℕ) (i : ℕ) {P : Type 0} → none ≡ memberValue (drop i m) → (d n : ℕ) (ms : Members) → MembersAt m d n i ms → P
-member-no-value m i f d n ms h = none-of (let x = at.member-here (h .here) in let y = x .place in let z : _≡_ {A = ℕ} 0 1 = cc in omega arith)
+-- a member's value, and the next member behind it
+module _ (m : List ℕ) (i v : ℕ) (f : (s : List ℕ) → memberValue (drop i m) ≡ some s → drop v m ≡ s) (d n : ℕ) (k : List ℕ) (j : Json) (ms : Members) (h : MembersAt m d n i (member k j ms)) where
+  pub value-stands : Stands m d v j
+  value-stands =
+      let x = at.member-here (h .here) in
+      let a : x .first ≡ j = cc (x .is) in
+      record { here = rw (sym (f (x .from) (x .place)), a) at (x .stands) }
+
+  pub behind-value : (c : Cursor) → placed m c ≡ nextElement (drop v m) → MembersFrom m d (n - 1) ms c
+  unfolding nextMember
+  behind-value c e =
+      let x = at.member-here (h .here) in
+      next-member-is m i c (e ∙ rw (x .place, f (x .from) (x .place))) d n k j ms h
+
+-- a place that is there, or not
+pub no-value : (t s : List ℕ) → none ≡ some s → t ≡ s
+no-value t s e = none-of (let z : _≡_ {A = ℕ} 0 1 = cc in omega arith)
+
+pub value-is : (t s : List ℕ) → some t ≡ some s → t ≡ s
+value-is t s e = cc
 
 -- one member, one element
 pub record One (m : List ℕ) (d n i : ℕ) (ms : Members) : Type 0 where

@@ -7,17 +7,19 @@ use targets::Form;
 use targets::Outcome;
 ghost use mathlib.Core.Path.{_≡_};
 ghost use mathlib.Core.List.{List};
-ghost use Prim.Native.Nat.{ℕ, _-_, _≤_};
+ghost use mathlib.Core.Option.{some};
+ghost use Prim.Native.Nat.{ℕ, _≤_};
 ghost use lib.ListN.{length, drop};
 ghost use mathlib.Core.Bool.{_||_};
 ghost use Rattle.definition.specs.Text.{text, equal, isOneOf};
 ghost use Rattle.definition.specs.Settings.{textsOf};
-ghost use Rattle.definition.specs.Json.{Json, str, Members, member, got, quoted};
+ghost use Rattle.definition.specs.Json.{Json, str, got, quoted};
+ghost use Rattle.definition.specs.JsonAt.{memberValue};
 ghost use Rattle.definition.specs.Exports.{Request, stringTarget, PACKAGE-TARGET-RESOLVE};
 ghost use Rattle.definition.specs.Specifier.{parseSpecifier};
 ghost use Rattle.targets.specs.Contexts.{contextOf};
 ghost use Rattle.targets.specs.Answers.{answerOf, Asked};
-ghost use Rattle.package_target.specs.Places.{Stands, MembersAt, MembersFrom, kindOf};
+ghost use Rattle.package_target.specs.Places.{Stands, kindOf};
 ghost use Rattle.package_target.specs.Answers.{Requested, isNothing, isFinal, isSome, isPassed};
 
 // The kinds of values.
@@ -42,26 +44,14 @@ pub fn kind_at(m: &[u8], at: usize) -> Kind
     }
 }
 
-// A member's value, and the next member.
-pub struct Member {
-    pub value: usize,
-    pub next: Cursor,
-}
-
-// The member at a place. Where none stands there, the answer is free.
-pub fn entry_at(m: &[u8], at: usize) -> Member
-    ensures { λ r. ⌜ ((d n : ℕ) (k : List ℕ) (j : Json) (ms : Members) → MembersAt (now (m .entry)) d n at (member k j ms) → Stands (now (m .entry)) d (r .value) j × MembersFrom (now (m .entry)) d (n - 1) ms (r .next)) ⌝ }
+// The place of the value of the member at a place. Where no member stands there, the answer is free.
+pub fn value_at(m: &[u8], at: usize) -> usize
+    ensures { λ r. ⌜ ((s : List ℕ) → memberValue (drop at (now (m .entry))) ≡ some s → drop r (now (m .entry)) ≡ s) ⌝ }
 {
     let value = package_json::member_value(m, at);
     match value {
-        Cursor::Nothing => Member {
-            value: at,
-            next: Cursor::Nothing,
-        },
-        Cursor::At(i) => {
-            let next = package_json::next_element(m, i);
-            Member { value: i, next }
-        }
+        Cursor::Nothing => at,
+        Cursor::At(i) => i,
     }
 }
 
@@ -239,8 +229,7 @@ pub fn package_target_resolve(
                 match cursor {
                     Cursor::Nothing => return targets::without_path(context, Outcome::Nothing),
                     Cursor::At(i) => {
-                        let e = entry_at(m, i);
-                        let value = e.value;
+                        let value = value_at(m, i);
                         let holds = condition_holds(m, i, settings);
                         if holds {
                             let r = package_target_resolve(
@@ -261,10 +250,10 @@ pub fn package_target_resolve(
                                 return r;
                             }
                             context = r.context;
-                            cursor = e.next;
+                            cursor = package_json::next_element(m, value);
                             left -= 1;
                         } else {
-                            cursor = e.next;
+                            cursor = package_json::next_element(m, value);
                             left -= 1;
                         }
                     }

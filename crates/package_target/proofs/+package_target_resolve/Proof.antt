@@ -22,7 +22,7 @@ use Rattle.package_target.proofs.package_target_resolve.Kinds as packag
 use Rattle.package_target.proofs.+package_target_resolve.Lts-package_target_resolve as package-target-resolve-lts
 use Rattle.package_target.proofs.condition_holds.Reads as condition-holds-reads
 use Rattle.package_json.proofs.first_element.Reads as first-element-reads
-use Rattle.package_target.proofs.entry_at.Reads as entry-at-reads
+use Rattle.package_target.proofs.value_at.Reads as value-at-reads
 use Rattle.package_target.proofs.is_nothing.Reads as is-nothing-reads
 use Rattle.package_target.proofs.is_passed.Reads as is-passed-reads
 use Rattle.package_target.proofs.is_some.Reads as is-some-reads
@@ -89,8 +89,8 @@ pub +package-target-resolve-spec : {M : Type 1} → statement M
   is-passed-reads.Learnt,
   first-member-reads.Asked,
   first-member-reads.Learnt,
-  entry-at-reads.Asked,
-  entry-at-reads.Learnt,
+  value-at-reads.Asked,
+  value-at-reads.Learnt,
   condition-holds-reads.Asked,
   condition-holds-reads.Learnt,
   is-nothing-reads.Asked,
@@ -146,13 +146,15 @@ pub +package-target-resolve-spec : {M : Type 1} → statement M
     (λ c κs. search needs)
     (λ c κs. search needs)
     (λ c. c .before .before .before .before .package-target-resolve2 .kept .1 .1 .1 .1 .1 .1 .1 .1 .0 ∙ c .before .before .before .before .before .before .before .before .before .before .before .before .before .before .loop2 .inv .0)
-    (λ c. (λ q j w a h. sym (object-stop (c .before .before .before .before .before .before .before .before .before .before .before .before .before .before .loop2 .inv .1 q j w a h) (c .before .before .before .before .before .before .before .before .before .before .before .cursor2 .given .1) (c .before .before .before .before .before .before .before .before .before .entry-at .result .value) (c .before .before .before .before .before .before .before .before .before .entry-at .result .next) (c .before .before .before .before .before .before .before .before .before .entry-at .ensures ((c .before .before .before .before .before .before .before .before .before .before .before .before .before .before .before .before .before .before .before .before .before .before .before .before .before .args .depth) - 1)) (c .before .before .before .before .before .before .before .before .before .before .before .before .before .before .before .before .before .before .before .before .before .before .before .before .before .args .settings .now) (a .conditions) (c .before .before .before .before .before .before .before .before .condition-holds .result) (c .before .before .before .before .before .before .before .before .condition-holds .ensures) (c .before .before .before .before .before .before .before .if5 .taken) _ (c .before .before .before .before .package-target-resolve2 .result) (λ j s. c .before .before .before .before .package-target-resolve2 .ensures .0 q j (omega (arith, c .before .before .before .before .before .before .before .before .before .before .before .before .before .before .loop2 .inv .0, w)) a s) (sym (c .before .is-nothing .ensures) ∙ not-true _ (c .if6 .taken))), c .before .before .before .before .package-target-resolve2 .kept .1 .1 .1 .1 .1 .1 .1 .1 .0 ∙ c .before .before .before .before .before .before .before .before .before .before .before .before .before .before .loop2 .inv .0))
+    (λ c. (λ q j w a h. sym (object-stop (c .before .before .before .before .before .before .before .before .before .before .before .before .before .before .loop2 .inv .1 q j w a h) (c .before .before .before .before .before .before .before .before .before .before .before .cursor2 .given .1) (c .before .before .before .before .before .before .before .before .before .value-at .result) (c .before .before .before .before .before .before .before .before .before .value-at .ensures) (c .before .before .before .before .before .before .before .before .before .before .before .before .before .before .before .before .before .before .before .before .before .before .before .before .before .args .settings .now) (a .conditions) (c .before .before .before .before .before .before .before .before .condition-holds .result) (c .before .before .before .before .before .before .before .before .condition-holds .ensures) (c .before .before .before .before .before .before .before .if5 .taken) _ (c .before .before .before .before .package-target-resolve2 .result) (λ j s. c .before .before .before .before .package-target-resolve2 .ensures .0 q j (omega (arith, c .before .before .before .before .before .before .before .before .before .before .before .before .before .before .loop2 .inv .0, w)) a s) (sym (c .before .is-nothing .ensures) ∙ not-true _ (c .if6 .taken))), c .before .before .before .before .package-target-resolve2 .kept .1 .1 .1 .1 .1 .1 .1 .1 .0 ∙ c .before .before .before .before .before .before .before .before .before .before .before .before .before .before .loop2 .inv .0))
+    (λ c κs. search needs)
     (λ c. search needs)
     (λ c. search needs)
-    (λ c. (c .before .before .before .before .before .package-target-resolve2 .kept .1 .1 .1 .1 .1 .1 .1 .1 .0 ∙ c .before .before .before .before .before .before .before .before .before .before .before .before .before .before .before .loop2 .inv .0, λ q j w a h. object-on (c .before .before .before .before .before .before .before .before .before .before .before .before .before .before .before .loop2 .inv .1 q j w a h) (c .before .before .before .before .before .before .before .before .before .before .before .before .cursor2 .given .1) (c .before .before .before .before .before .before .before .before .before .before .entry-at .result .value) (c .before .before .before .before .before .before .before .before .before .before .entry-at .result .next) (c .before .before .before .before .before .before .before .before .before .before .entry-at .ensures ((c .before .before .before .before .before .before .before .before .before .before .before .before .before .before .before .before .before .before .before .before .before .before .before .before .before .before .args .depth) - 1)) (c .before .before .before .before .before .before .before .before .before .before .before .before .before .before .before .before .before .before .before .before .before .before .before .before .before .before .args .settings .now) (a .conditions) (c .before .before .before .before .before .before .before .before .before .condition-holds .result) (c .before .before .before .before .before .before .before .before .before .condition-holds .ensures) (c .before .before .before .before .before .before .before .before .if5 .taken) _ (c .before .before .before .before .before .package-target-resolve2 .result) (λ j s. c .before .before .before .before .before .package-target-resolve2 .ensures .0 q j (omega (arith, c .before .before .before .before .before .before .before .before .before .before .before .before .before .before .before .loop2 .inv .0, w)) a s) (sym (c .before .before .is-nothing .ensures) ∙ not-false _ (c .before .if6 .left))))
+    (λ c. (c .before .before .before .before .before .before .package-target-resolve2 .kept .1 .1 .1 .1 .1 .1 .1 .1 .0 ∙ c .before .before .before .before .before .before .before .before .before .before .before .before .before .before .before .before .loop2 .inv .0, λ q j w a h. object-on (c .before .before .before .before .before .before .before .before .before .before .before .before .before .before .before .before .loop2 .inv .1 q j w a h) (c .before .before .before .before .before .before .before .before .before .before .before .before .before .cursor2 .given .1) (c .before .before .before .before .before .before .before .before .before .before .before .value-at .result) (c .before .before .before .before .before .before .before .before .before .before .before .value-at .ensures) (c .before .before .before .before .before .before .before .before .before .before .before .before .before .before .before .before .before .before .before .before .before .before .before .before .before .before .before .args .settings .now) (a .conditions) (c .before .before .before .before .before .before .before .before .before .before .condition-holds .result) (c .before .before .before .before .before .before .before .before .before .before .condition-holds .ensures) (c .before .before .before .before .before .before .before .before .before .if5 .taken) _ (c .before .before .before .before .before .before .package-target-resolve2 .result) (λ j s. c .before .before .before .before .before .before .package-target-resolve2 .ensures .0 q j (omega (arith, c .before .before .before .before .before .before .before .before .before .before .before .before .before .before .before .before .loop2 .inv .0, w)) a s) (sym (c .before .before .before .is-nothing .ensures) ∙ not-false _ (c .before .before .if6 .left)) (c .next-element2 .result) (c .next-element2 .ensures)))
+    (λ c κs. search needs)
     (λ c. search needs)
     (λ c. search needs)
-    (λ c. (c .before .before .before .before .before .before .before .loop2 .inv .0, λ q j w a h. object-skip (c .before .before .before .before .before .before .before .loop2 .inv .1 q j w a h) (c .before .before .before .before .cursor2 .given .1) (c .before .before .entry-at .result .value) (c .before .before .entry-at .result .next) (c .before .before .entry-at .ensures ((c .before .before .before .before .before .before .before .before .before .before .before .before .before .before .before .before .before .before .args .depth) - 1)) (c .before .before .before .before .before .before .before .before .before .before .before .before .before .before .before .before .before .before .args .settings .now) (a .conditions) (c .before .condition-holds .result) (c .before .condition-holds .ensures) (c .if5 .left)))
+    (λ c. (c .before .before .before .before .before .before .before .before .loop2 .inv .0, λ q j w a h. object-skip (c .before .before .before .before .before .before .before .before .loop2 .inv .1 q j w a h) (c .before .before .before .before .before .cursor2 .given .1) (c .before .before .before .value-at .result) (c .before .before .before .value-at .ensures) (c .before .before .before .before .before .before .before .before .before .before .before .before .before .before .before .before .before .before .before .args .settings .now) (a .conditions) (c .before .before .condition-holds .result) (c .before .before .condition-holds .ensures) (c .before .if5 .left) (c .next-element3 .result) (c .next-element3 .ensures)))
     (λ c κs. search needs)
     (λ c. (λ q j w a h. outcome-is _ q _ (c .without-path .result) (c .before .before .before .before .before .before .before .before .before .args .c) Nothing (c .without-path .ensures) ∙ sym (resolve-scalar q j (contextOf (c .before .before .before .before .before .before .before .before .before .args .m .now) (c .before .before .before .before .before .before .before .before .before .args .c)) (sym (c .before .enum-told .given .1) ∙ c .before .before .before .kind-at .ensures _ j h)), refl))
     (λ c. c .before .before .string-target .kept .1 .1 .1 .1 .1 .1 .0)
