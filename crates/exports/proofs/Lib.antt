@@ -1,4 +1,2 @@
-pub mod Places
-pub mod Loops
 pub mod Objects
 pub mod Resolutions

@@ -1,22 +1,24 @@
 -- The loops over the keys of an object: what they begin with, and the best of those that match.
 use mathlib.Core.Path.{_≡_, refl, sym, _∙_, ap}
-use mathlib.Core.Bool.{Bool, true, false, not, _&&_, _||_}
-use mathlib.Core.List.{List, [], _∷_}
+use mathlib.Core.Bool.{Bool, true, false, _||_}
+use mathlib.Core.List.{List, []}
 use mathlib.Core.Option.{Option, none, some}
-use Prim.Native.Nat.{ℕ, zero, suc, _+_, _-_, _<_, _≤_, Ordering, Ordering·lt, Ordering·eq, Ordering·gt}
+use Prim.Native.Nat.{ℕ, _-_, _≤_, Ordering, Ordering·lt, Ordering·eq, Ordering·gt}
 use native.Mathlib.Omega.{arith}
-use lib.ListN.{length, drop, take}
-use Rattle.definition.specs.Text.{if_then_else_, star, contains}
+use lib.ListN.{drop}
+use Rattle.definition.specs.Text.{contains}
 use Rattle.definition.specs.Json.{Json, Members, noMember, member, got, quoted}
-use Rattle.definition.specs.Exports.{Entry, entries, anyKey, isDotKey, isSubpathKey, baseLength, PATTERN-KEY-COMPARE, isGt, patternMatch, isMatch, matches, bestKey, better, best}
-use Rattle.exports.specs.Places.{Stands, MembersAt, MembersFrom}
+use Rattle.definition.specs.JsonAt.{nextElement, memberValue, nextMember}
+use Rattle.definition.specs.Exports.{Entry, entries, anyKey, baseLength, PATTERN-KEY-COMPARE, isGt, patternMatch, isMatch, matches, bestKey, better, best}
+use Rattle.package_target.specs.Places.{Stands, MembersAt, MembersFrom}
 use Rattle.package_json.specs.declared.Cursor.{Cursor}
 use Rattle.package_json.specs.declared.Cursor.the-variants.{At, Nothing as Done}
-use Rattle.exports.proofs.Places.{One, one, none-left}
+use Rattle.package_json.specs.Cursors.{placed}
+use Rattle.package_target.proofs.Places.{One, one, none-left, next-member-is, value-stands, behind-value}
 use Rattle.exports.specs.declared.KeyMarks.{KeyMarks}
 use Rattle.exports.specs.declared.Best.{Best}
 use Rattle.targets.specs.Keys.{rankOf}
-use Rattle.exports.specs.Chosen.{aKey, joinedKeys, keysOf, Chosen, BestOf}
+use Rattle.exports.specs.Chosen.{aKey, joinedKeys, keysOf, BestOf}
 
 -- the member at a cursor
 module _ (m : List ℕ) (n : ℕ) (others : Members) (cursor : Cursor) (from : MembersFrom m 14 n others cursor) where
@@ -37,8 +39,8 @@ module _ (m : List ℕ) (n : ℕ) (others : Members) (cursor : Cursor) (from : M
     pub name-read : (s : List ℕ) × (quoted (drop i m) ≡ got (that .name) s)
     name-read = (that .behind, that .quote)
 
-    pub both-that : (v : ℕ) (next : Cursor) → ((n : ℕ) (k : List ℕ) (j : Json) (ms : Members) → MembersAt m 14 n i (member k j ms) → Stands m 14 v j × MembersFrom m 14 (n - 1) ms next) → Stands m 14 v (that .val) × MembersFrom m 14 (n - 1) (that .others) next
-    both-that v next f = f n (that .name) (that .val) (that .others) (rw (that .is) at (rw e at from))
+    pub that-here : MembersAt m 14 n i (member (that .name) (that .val) (that .others))
+    that-here = rw (that .is) at (rw e at from)
 
 -- what the keys begin with
 or-assoc : (a b c : Bool) → (a || (b || c)) ≡ ((a || b) || c)
@@ -82,14 +84,14 @@ module _ {m : List ℕ} {ms : Members} {n : ℕ} {cursor : Cursor} {keys : KeyMa
   pub keyed-over : n ≤ 0 → keys ≡ keysOf (entries ms)
   keyed-over l = keyed-done (member-over m n (g .others) cursor (g .from) l)
 
-  pub keyed-on : {i : ℕ} (e : cursor ≡ At i) (v : ℕ) (next : Cursor) → ((n : ℕ) (k : List ℕ) (j : Json) (ms : Members) → MembersAt m 14 n i (member k j ms) → Stands m 14 v j × MembersFrom m 14 (n - 1) ms next)
+  pub keyed-on : {i : ℕ} (e : cursor ≡ At i) (next : Cursor) → placed m next ≡ nextMember (drop i m)
       → (K : KeyMarks) → ((k s : List ℕ) → quoted (drop i m) ≡ got k s → K ≡ aKey k) → (r : KeyMarks) → r ≡ joinedKeys keys K → Keyed m ms (n - 1) next r
-  keyed-on e v next f K p r q =
+  keyed-on {i} e next l K p r q =
       let t = that m n (g .others) cursor (g .from) e in
       let a : K ≡ aKey (t .name) = p (t .name) (name-read m n (g .others) cursor (g .from) e .0) (name-read m n (g .others) cursor (g .from) e .1) in
       record {
         others = t .others;
-        from = both-that m n (g .others) cursor (g .from) e v next f .1;
+        from = next-member-is m i next l 14 n (t .name) (t .val) (t .others) (that-here m n (g .others) cursor (g .from) e);
         same =
             g .same ∙ ap (λ x. joinedKeys keys (keysOf (entries x))) (t .is) ∙ ap (joinedKeys keys) (keys-more (t .name) (t .val) (t .others))
             ∙ joined-assoc keys (aKey (t .name)) (keysOf (entries (t .others)))
@@ -147,16 +149,16 @@ module _ {m mk : List ℕ} {ms : Members} {n : ℕ} {cursor : Cursor} {b : Best}
   pub best-over : n ≤ 0 → BestOf m mk b (best mk none (entries ms))
   best-over l = best-done (member-over m n (g .others) cursor (g .from) l)
 
-  pub best-on : {i : ℕ} (e : cursor ≡ At i) (v : ℕ) (next : Cursor) → ((n : ℕ) (k : List ℕ) (j : Json) (ms : Members) → MembersAt m 14 n i (member k j ms) → Stands m 14 v j × MembersFrom m 14 (n - 1) ms next)
+  pub best-on : {i : ℕ} (e : cursor ≡ At i) (v : ℕ) → ((s : List ℕ) → memberValue (drop i m) ≡ some s → drop v m ≡ s) → (next : Cursor) → placed m next ≡ nextElement (drop v m)
       → (r : Best) → ((o : Option Entry) (k s : List ℕ) (j : Json) → quoted (drop i m) ≡ got k s → Stands m 14 v j → BestOf m mk b o → BestOf m mk r (better mk o (record { key = k; target = j }))) → Besting m mk ms (n - 1) next r
   unfolding best entries
-  best-on e v next f r p =
+  best-on {i} e v f next l r p =
       let t = that m n (g .others) cursor (g .from) e in
-      let d = both-that m n (g .others) cursor (g .from) e v next f in
+      let h = that-here m n (g .others) cursor (g .from) e in
       record {
         others = t .others;
-        from = d .1;
+        from = behind-value m i v f 14 n (t .name) (t .val) (t .others) h next l;
         so = better mk (g .so) (record { key = t .name; target = t .val });
-        is = p (g .so) (t .name) (name-read m n (g .others) cursor (g .from) e .0) (t .val) (name-read m n (g .others) cursor (g .from) e .1) (d .0) (g .is);
+        is = p (g .so) (t .name) (name-read m n (g .others) cursor (g .from) e .0) (t .val) (name-read m n (g .others) cursor (g .from) e .1) (value-stands m i v f 14 n (t .name) (t .val) (t .others) h) (g .is);
         same = g .same ∙ ap (λ x. best mk (g .so) (entries x)) (t .is);
       }

@@ -1,37 +1,39 @@
 -- Keys, the main export, and the exports field as a whole.
 use mathlib.Core.Path.{_≡_, refl, sym, _∙_, ap}
-use mathlib.Core.Bool.{Bool, true, false, not, _&&_, _||_}
-use mathlib.Core.List.{List, [], _∷_}
+use mathlib.Core.Bool.{Bool, true, false, not, _&&_}
+use mathlib.Core.List.{List}
 use mathlib.Core.Option.{Option, none, some}
-use Prim.Native.Nat.{ℕ, _≤_}
+use Prim.Native.Nat.{ℕ, suc}
 use native.Mathlib.Omega.{arith}
 use lib.ListN.{length, drop, take}
 use Rattle.definition.specs.Text.{text, if_then_else_, star, equal, startsWith, endsWith, contains}
 use Rattle.definition.specs.Path.{manifestOf}
-use Rattle.definition.specs.Json.{Json, scalar, str, arr, obj, Members, got, quoted}
+use Rattle.definition.specs.Json.{Json, scalar, str, arr, obj, Members}
 use Rattle.definition.specs.Settings.{textsOf}
 use Rattle.definition.specs.Exports as exports
-use Rattle.definition.specs.Exports.{Request, failed, InvalidPackageConfig, orGoOn, pathNotExported, Entry, entries, get, anyKey, isDotKey, isSubpathKey, patternMatch, starMatch, best, literal, literalOr, bestResolve, PACKAGE-TARGET-RESOLVE, PACKAGE-IMPORTS-EXPORTS-RESOLVE, isMixed, dotOr, mainExport, mainResolve, keyResolve, PACKAGE-EXPORTS-RESOLVE}
-use Rattle.exports.specs.Places.{Stands, Finds, kindOf}
+use Rattle.definition.specs.Exports.{Request, failed, InvalidPackageConfig, orGoOn, pathNotExported, Entry, entries, get, anyKey, isDotKey, isSubpathKey, patternMatch, best, literal, literalOr, bestResolve, PACKAGE-TARGET-RESOLVE, PACKAGE-IMPORTS-EXPORTS-RESOLVE, isMixed, dotOr, mainExport, mainResolve, keyResolve, PACKAGE-EXPORTS-RESOLVE}
+use Rattle.definition.specs.JsonAt.{getAt}
+use Rattle.laws.specs.JsonAtLaws as at
+use Rattle.package_target.specs.Places.{Stands, kindOf}
 use Rattle.package_json.specs.declared.Cursor.{Cursor}
 use Rattle.package_json.specs.declared.Cursor.the-variants.{At as FoundAt, Nothing as NotFound}
-use Rattle.exports.specs.declared.Kind.the-variants.{Scalar, String, Array, Object}
+use Rattle.package_json.specs.Cursors.{placed}
+use Rattle.package_target.specs.declared.Kind.the-variants.{Scalar, String, Array}
 use Rattle.targets.specs.declared.Context.{Context}
 use Rattle.targets.specs.declared.Form.{Form}
-use Rattle.targets.specs.declared.Form.the-variants.{Plain, Starred, Folder}
+use Rattle.targets.specs.declared.Form.the-variants.{Plain}
 use Rattle.targets.specs.declared.Match.the-variants.{Part}
 use Rattle.targets.specs.declared.Outcome.{Outcome}
 use Rattle.targets.specs.declared.Answer.{Answer}
 use Rattle.exports.specs.declared.Best.{Best}
-use Rattle.exports.specs.declared.Key.{Key}
 use Rattle.exports.specs.declared.Key.the-variants.{Subpath, At}
 use Rattle.exports.specs.declared.Resolved.{Resolved}
 use Rattle.targets.specs.Keys.{matchOf}
 use Rattle.targets.specs.Contexts.{readText, contextOf}
 use Rattle.targets.specs.Answers.{outcomeIn, answerOf, Formed}
-use Rattle.exports.specs.Answers.{Requested, isNothing}
-use Rattle.exports.specs.Chosen.{Chosen, BestOf, formOf, keyText, resolvedOf, dotRequest, keysOrNot, IsWhole}
-use Rattle.exports.proofs.Loops.{nothingYet, go-stop, go-on}
+use Rattle.package_target.specs.Answers.{Requested, isNothing}
+use Rattle.exports.specs.Chosen.{Finds, Chosen, BestOf, formOf, keyText, resolvedOf, dotRequest, keysOrNot, IsWhole}
+use Rattle.package_target.proofs.Loops.{nothingYet, go-stop, go-on}
 
 clash : {P : Type 0} → true ≡ false → P
 clash e = absurd (let z : _≡_ {A = ℕ} 0 1 = cc in omega arith)
@@ -45,6 +47,14 @@ subpath-is m url subpath path r c o e =
     ∙ ap (λ x. record { context = contextOf m c; outcome = outcomeIn url (keyText m subpath x) (matchOf subpath (r .matched)) o (take (r .answer .len) path) }) (e .2)
 
 -- a member's value that was looked for
+finds-from : (m : List ℕ) (d : ℕ) (o : Option Json) (c : Cursor) → at.Finds d o (placed m c) → Finds m d o c
+finds-from m d (some j) (FoundAt i) (at.finds h) = record { here = h }
+finds-from m d none NotFound at.finds-none = tt
+
+pub get-finds : (m : List ℕ) (i : ℕ) (c : Cursor) (k : List ℕ) → placed m c ≡ getAt k (drop i m) → (d : ℕ) (ms : Members) → Stands m (suc d) i (obj ms) → Finds m d (get k (entries ms)) c
+unfolding getAt
+get-finds m i c k e d ms h = finds-from m d (get k (entries ms)) c (rw e (at.find-here 128 k (at.first-member (h .here))))
+
 pub finds-some : (m : List ℕ) (d : ℕ) (o : Option Json) (r : Cursor) (i : ℕ) → Finds m d o r → r ≡ FoundAt i → (j : Json) × ((o ≡ some j) × Stands m d i j)
 finds-some m d (some j) r i h e = (j, (refl, rw e at h))
 finds-some m d none r i h e = absurd (rw e at h)

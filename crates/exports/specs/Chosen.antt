@@ -9,7 +9,9 @@ use Rattle.definition.specs.Text.{text}
 use Rattle.definition.specs.Json.{Json, scalar, str, arr, obj, got, quoted}
 use Rattle.definition.specs.Exports as exports
 use Rattle.definition.specs.Exports.{Entry, anyKey, isDotKey, isSubpathKey, patternMatch, Request, orGoOn, keyResolve, pathNotExported}
-use Rattle.exports.specs.Places.{Stands}
+use Rattle.package_json.specs.declared.Cursor.{Cursor}
+use Rattle.package_json.specs.declared.Cursor.the-variants.{At as FoundAt, Nothing as NotFound}
+use Rattle.package_target.specs.Places.{Stands}
 use Rattle.targets.specs.declared.Form.{Form}
 use Rattle.targets.specs.declared.Form.the-variants.{Starred, Folder}
 use Rattle.exports.specs.declared.KeyMarks.{KeyMarks}
@@ -20,6 +22,13 @@ use Rattle.exports.specs.declared.Resolved.{Resolved}
 use Rattle.targets.specs.Keys.{rankOf, matchOf}
 use Rattle.targets.specs.Contexts.{stringAt, contextOf}
 use Rattle.targets.specs.Answers.{outcomeIn}
+
+-- a member's value was looked for
+abbrev pub Finds : List ℕ → ℕ → Option Json → Cursor → Type 0
+Finds m d (some j) (FoundAt i) = Stands m d i j
+Finds m d (some j) NotFound = ⊥
+Finds m d none (FoundAt i) = ⊥
+Finds m d none NotFound = Unit {0}
 
 -- what one key begins with, and the keys of some members
 abbrev pub aKey : List ℕ → KeyMarks

@@ -1,3 +1,1 @@
-pub mod Places
-pub mod Answers
 pub mod Chosen

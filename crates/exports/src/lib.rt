@@ -1,5 +1,7 @@
-// The exports algorithms of the Node.js documents, as lib.rs has them.
+// PACKAGE_EXPORTS_RESOLVE and PACKAGE_IMPORTS_EXPORTS_RESOLVE of the Node.js documents, as lib.rs has them: the keys of an exports map, and the one
+// whose target is resolved.
 use package_json::Cursor;
+use package_target::Kind;
 use targets::Answer;
 use targets::Context;
 use targets::Form;
@@ -9,304 +11,18 @@ use targets::Outcome;
 use targets::Rank;
 ghost use mathlib.Core.Path.{_≡_};
 ghost use mathlib.Core.List.{List};
-ghost use Prim.Native.Nat.{ℕ, _-_, _≤_, suc};
+ghost use Prim.Native.Nat.{ℕ, _≤_};
 ghost use lib.ListN.{length, drop};
 ghost use mathlib.Core.Bool.{_&&_, _||_};
-ghost use Rattle.definition.specs.Text.{text, equal, isOneOf};
 ghost use Rattle.definition.specs.Settings.{textsOf, settingsOf};
 ghost use mathlib.Core.Option.{Option, none};
-ghost use Rattle.definition.specs.Json.{Json, str, arr, obj, Members, member, Elements, element, got, quoted};
+ghost use Rattle.definition.specs.Json.{Json, obj, Members, got, quoted};
 ghost use Rattle.laws.specs.JsonAtLaws as values;
-ghost use Rattle.definition.specs.Exports.{isSubpathKey, Request, stringTarget, isDotKey, anyKey, Entry, entries, get as getOf, better as betterOf, best as bestOf, literal, bestResolve, mainExport, mainResolve, PACKAGE-IMPORTS-EXPORTS-RESOLVE, PACKAGE-EXPORTS-RESOLVE};
-ghost use Rattle.definition.specs.Specifier.{parseSpecifier};
+ghost use Rattle.definition.specs.Exports.{isSubpathKey, isDotKey, anyKey, Entry, entries, better as betterOf, best as bestOf, literal, bestResolve, mainExport, mainResolve, PACKAGE-IMPORTS-EXPORTS-RESOLVE, PACKAGE-EXPORTS-RESOLVE};
 ghost use Rattle.targets.specs.Contexts.{contextOf};
-ghost use Rattle.targets.specs.Answers.{answerOf, Asked};
-ghost use Rattle.exports.specs.Places.{Stands, MembersAt, ElementsAt, MembersFrom, ElementsFrom, kindOf, Finds};
-ghost use Rattle.exports.specs.Answers.{isNothing, isFinal, isSome, isPassed, Resolves};
-ghost use Rattle.exports.specs.Chosen.{aKey, joinedKeys, keysOf, BestOf, formOf, resolvedOf, fresh, dotRequest, keysOrNot, IsWhole};
-
-// The kinds of values.
-pub enum Kind {
-    Scalar,
-    String,
-    Array,
-    Object,
-}
-
-fn kind_at(m: &[u8], at: usize) -> Kind
-    ensures { λ r. ⌜ ((d : ℕ) (j : Json) → Stands (now (m .entry)) d at j → r ≡ kindOf j) ⌝ }
-{
-    let kind = package_json::kind_at(m, at);
-    match kind {
-        package_json::Kind::Scalar => Kind::Scalar,
-        package_json::Kind::String => Kind::String,
-        package_json::Kind::Array => Kind::Array,
-        package_json::Kind::Object => Kind::Object,
-        package_json::Kind::Nothing => Kind::Scalar,
-    }
-}
-
-// The first member of the object at a place, and the first element of an array.
-fn members_of(m: &[u8], at: usize) -> Cursor
-    ensures { λ r. ⌜ ((d : ℕ) (ms : Members) → Stands (now (m .entry)) (suc d) at (obj ms) → MembersFrom (now (m .entry)) d 128 ms r) ⌝ }
-{
-    package_json::first_member(m, at)
-}
-
-fn elements_of(m: &[u8], at: usize) -> Cursor
-    ensures { λ r. ⌜ ((d : ℕ) (js : Elements) → Stands (now (m .entry)) (suc d) at (arr js) → ElementsFrom (now (m .entry)) d 128 js r) ⌝ }
-{
-    package_json::first_element(m, at)
-}
-
-fn next_element(m: &[u8], at: usize) -> Cursor
-    ensures { λ r. ⌜ ((d n : ℕ) (j : Json) (js : Elements) → ElementsAt (now (m .entry)) d n at (element j js) → Stands (now (m .entry)) d at j × ElementsFrom (now (m .entry)) d (n - 1) js r) ⌝ }
-{
-    package_json::next_element(m, at)
-}
-
-// A member's value, and the next member.
-struct Member {
-    value: usize,
-    next: Cursor,
-}
-
-fn entry_at(m: &[u8], at: usize) -> Member
-    ensures { λ r. ⌜ ((d n : ℕ) (k : List ℕ) (j : Json) (ms : Members) → MembersAt (now (m .entry)) d n at (member k j ms) → Stands (now (m .entry)) d (r .value) j × MembersFrom (now (m .entry)) d (n - 1) ms (r .next)) ⌝ }
-{
-    let value = package_json::member_value(m, at);
-    match value {
-        Cursor::Nothing => Member {
-            value: at,
-            next: Cursor::Nothing,
-        },
-        Cursor::At(i) => {
-            let next = package_json::next_element(m, i);
-            Member { value: i, next }
-        }
-    }
-}
-
-fn get(m: &[u8], at: usize, name: &[u8]) -> Cursor
-    ensures { λ r. ⌜ ((d : ℕ) (ms : Members) → Stands (now (m .entry)) (suc d) at (obj ms) → Finds (now (m .entry)) d (getOf (now (name .entry)) (entries ms)) r) ⌝ }
-{
-    package_json::get(m, at, name)
-}
-
-fn name_is(m: &[u8], at: usize, key: &[u8]) -> bool
-    ensures { λ r. ⌜ ((t s : List ℕ) → quoted (drop at (now (m .entry))) ≡ got t s → r ≡ equal t (now (key .entry))) ⌝ }
-{
-    package_json::name_is(m, at, key)
-}
-
-// The string at a place as a target.
-fn string_target(
-    m: &[u8],
-    at: usize,
-    url: &[u8],
-    form: Form,
-    pattern: &[u8],
-    c: Context,
-    work: &mut [u8],
-    path: &mut [u8; 2048],
-) -> Answer
-    requires { ⌜ 1024 ≤ length (now work) ⌝ }
-    ensures { λ r. ⌜ ((q : Request) (d : ℕ) (s : List ℕ) → Asked q (now (url .entry)) form (now (pattern .entry)) → Stands (now (m .entry)) d at (str s) → answerOf (now (m .entry)) q (now (path .exit)) r ≡ stringTarget q (parseSpecifier s) s (contextOf (now (m .entry)) c)) ⌝ }
-{
-    let t = package_json::read_text(m, at, work);
-    targets::text_target(
-        url,
-        form,
-        pattern,
-        package_json::text_at(m, work, t),
-        at,
-        c,
-        path,
-    )
-}
-
-// Whether the condition holds that the member at a place names.
-fn condition_holds(m: &[u8], at: usize, settings: &[u8]) -> bool
-    ensures { λ r. ⌜ ((k s : List ℕ) → quoted (drop at (now (m .entry))) ≡ got k s → r ≡ (equal k (text "default") || isOneOf (textsOf (now (settings .entry)) 0) k)) ⌝ }
-{
-    if name_is(m, at, b"default") {
-        return true;
-    }
-    let n = settings::count(settings, settings::Kind::Conditions);
-    let mut i: usize = 0;
-    while i < n {
-        let condition = settings::text(settings, settings::Kind::Conditions, i);
-        if name_is(m, at, condition) {
-            return true;
-        }
-        i += 1;
-    }
-    false
-}
-
-// Nothing was found: the next condition, or the next part of the algorithm, is tried.
-fn is_nothing(o: Outcome) -> bool
-    ensures { λ r. ⌜ r ≡ isNothing o ⌝ }
-{
-    match o {
-        Outcome::Nothing => true,
-        Outcome::Found => false,
-        Outcome::Empty => false,
-        Outcome::InvalidTarget => false,
-        Outcome::NotExportedMatch => false,
-        Outcome::NotExported => false,
-        Outcome::ConfigMixed => false,
-        Outcome::ConfigDirectory => false,
-        Outcome::OverLong => false,
-    }
-}
-
-fn is_some(c: Cursor) -> bool
-    ensures { λ r. ⌜ r ≡ isSome c ⌝ }
-{
-    match c {
-        Cursor::Nothing => false,
-        Cursor::At(_) => true,
-    }
-}
-
-// A path, or a refusal: nothing else is tried.
-fn is_final(o: Outcome) -> bool
-    ensures { λ r. ⌜ r ≡ isFinal o ⌝ }
-{
-    match o {
-        Outcome::Found => true,
-        Outcome::OverLong => true,
-        Outcome::Nothing => false,
-        Outcome::Empty => false,
-        Outcome::InvalidTarget => false,
-        Outcome::NotExportedMatch => false,
-        Outcome::NotExported => false,
-        Outcome::ConfigMixed => false,
-        Outcome::ConfigDirectory => false,
-    }
-}
-
-// An element that gave nothing, or failed and is not the last: the next element is tried. A refusal ends the array.
-fn is_passed(o: Outcome, next: Cursor) -> bool
-    ensures { λ r. ⌜ r ≡ isPassed o next ⌝ }
-{
-    if is_nothing(o) {
-        return true;
-    }
-    if is_final(o) {
-        return false;
-    }
-    is_some(next)
-}
-
-// The target at a place, in which `depth` more brackets may be open.
-fn package_target_resolve(
-    m: &[u8],
-    at: usize,
-    depth: usize,
-    settings: &[u8],
-    url: &[u8],
-    form: Form,
-    pattern: &[u8],
-    c: Context,
-    work: &mut [u8],
-    path: &mut [u8; 2048],
-) -> Answer
-    requires { ⌜ 1024 ≤ length (now work) ⌝ }
-    ensures { λ r. ⌜ Resolves (now (m .entry)) at depth (now (settings .entry)) (now (url .entry)) form (now (pattern .entry)) c (now (path .exit)) r ⌝ }
-{
-    let kind = kind_at(m, at);
-    match kind {
-        Kind::Scalar => targets::without_path(c, Outcome::Nothing),
-        Kind::String => string_target(m, at, url, form, pattern, c, work, path),
-        Kind::Array => {
-            if depth == 0 {
-                return targets::without_path(c, Outcome::Nothing);
-            }
-            let mut cursor = elements_of(m, at);
-            let some = is_some(cursor);
-            if !some {
-                return targets::without_path(c, Outcome::NotExportedMatch);
-            }
-            let mut context = c;
-            let mut left: usize = 128;
-            while left > 0 {
-                match cursor {
-                    Cursor::Nothing => return targets::without_path(context, Outcome::Nothing),
-                    Cursor::At(i) => {
-                        let next = next_element(m, i);
-                        let r = package_target_resolve(
-                            m,
-                            i,
-                            depth - 1,
-                            settings,
-                            url,
-                            form,
-                            pattern,
-                            context,
-                            work,
-                            path,
-                        );
-                        let outcome = r.outcome;
-                        let passed = is_passed(outcome, next);
-                        if !passed {
-                            return r;
-                        }
-                        context = r.context;
-                        cursor = next;
-                        left -= 1;
-                    }
-                }
-            }
-            targets::without_path(context, Outcome::Nothing)
-        }
-        Kind::Object => {
-            if depth == 0 {
-                return targets::without_path(c, Outcome::Nothing);
-            }
-            let mut cursor = members_of(m, at);
-            let mut context = c;
-            let mut left: usize = 128;
-            while left > 0 {
-                match cursor {
-                    Cursor::Nothing => return targets::without_path(context, Outcome::Nothing),
-                    Cursor::At(i) => {
-                        let e = entry_at(m, i);
-                        let value = e.value;
-                        let holds = condition_holds(m, i, settings);
-                        if holds {
-                            let r = package_target_resolve(
-                                m,
-                                value,
-                                depth - 1,
-                                settings,
-                                url,
-                                form,
-                                pattern,
-                                context,
-                                work,
-                                path,
-                            );
-                            let outcome = r.outcome;
-                            let passed = is_nothing(outcome);
-                            if !passed {
-                                return r;
-                            }
-                            context = r.context;
-                            cursor = e.next;
-                            left -= 1;
-                        } else {
-                            cursor = e.next;
-                            left -= 1;
-                        }
-                    }
-                }
-            }
-            targets::without_path(context, Outcome::Nothing)
-        }
-    }
-}
+ghost use Rattle.targets.specs.Answers.{answerOf};
+ghost use Rattle.package_target.specs.Places.{Stands};
+ghost use Rattle.exports.specs.Chosen.{Finds, aKey, joinedKeys, keysOf, BestOf, formOf, resolvedOf, fresh, dotRequest, keysOrNot, IsWhole};
 
 // What the keys of an object begin with.
 struct KeyMarks {
@@ -367,7 +83,7 @@ fn keys_of(m: &[u8], at: usize, work: &mut [u8]) -> KeyMarks
     requires { ⌜ 1024 ≤ length (now work) ⌝ }
     ensures { λ r. ⌜ ((ms : Members) → Stands (now (m .entry)) 15 at (obj ms) → r ≡ keysOf (entries ms)) ⌝ }
 {
-    let mut cursor = members_of(m, at);
+    let mut cursor = package_json::first_member(m, at);
     let mut keys = KeyMarks {
         dot: false,
         other: false,
@@ -378,10 +94,9 @@ fn keys_of(m: &[u8], at: usize, work: &mut [u8]) -> KeyMarks
         match cursor {
             Cursor::Nothing => return keys,
             Cursor::At(i) => {
-                let e = entry_at(m, i);
                 let key = key_at(m, i, work);
                 keys = joined(keys, key);
-                cursor = e.next;
+                cursor = package_json::next_member(m, i);
                 left -= 1;
             }
         }
@@ -433,7 +148,7 @@ fn best_key(m: &[u8], at: usize, subpath: &[u8], work: &mut [u8]) -> Best
     requires { ⌜ 1024 ≤ length (now work) ⌝ }
     ensures { λ r. ⌜ ((ms : Members) → Stands (now (m .entry)) 15 at (obj ms) → BestOf (now (m .entry)) (now (subpath .entry)) r (bestOf (now (subpath .entry)) none (entries ms))) ⌝ }
 {
-    let mut cursor = members_of(m, at);
+    let mut cursor = package_json::first_member(m, at);
     let mut best = Best {
         found: false,
         key: 0,
@@ -451,10 +166,9 @@ fn best_key(m: &[u8], at: usize, subpath: &[u8], work: &mut [u8]) -> Best
         match cursor {
             Cursor::Nothing => return best,
             Cursor::At(i) => {
-                let e = entry_at(m, i);
-                let value = e.value;
+                let value = package_target::value_at(m, i);
                 best = better(m, i, value, subpath, best, work);
-                cursor = e.next;
+                cursor = package_json::next_element(m, value);
                 left -= 1;
             }
         }
@@ -495,7 +209,7 @@ fn literal_at(m: &[u8], at: usize, match_key: &[u8]) -> Cursor
     if text::contains(match_key, b'*') {
         return Cursor::Nothing;
     }
-    get(m, at, match_key)
+    package_json::get(m, at, match_key)
 }
 
 fn form_of(starred: bool) -> Form
@@ -532,7 +246,7 @@ fn pattern_resolve(
     let len = best.len;
     let rank = best.rank;
     let form = form_of(rank.starred);
-    let answer = package_target_resolve(
+    let answer = package_target::package_target_resolve(
         m,
         value,
         14,
@@ -571,7 +285,7 @@ fn package_imports_exports_resolve(
     match literal {
         Cursor::Nothing => pattern_resolve(m, at, settings, url, match_key, c, work, path),
         Cursor::At(i) => {
-            let answer = package_target_resolve(
+            let answer = package_target::package_target_resolve(
                 m,
                 i,
                 14,
@@ -609,7 +323,7 @@ fn keys_resolve(
     let r = package_imports_exports_resolve(m, at, settings, url, subpath, c, work, path);
     let a = r.answer;
     let outcome = a.outcome;
-    let nothing = is_nothing(outcome);
+    let nothing = package_target::is_nothing(outcome);
     if !nothing {
         return r;
     }
@@ -630,9 +344,9 @@ fn main_resolve(
     requires { ⌜ 1024 ≤ length (now work) ⌝ }
     ensures { λ r. ⌜ ((ms : Members) → Stands (now (m .entry)) 15 at (obj ms) → subpaths ≡ anyKey isSubpathKey (entries ms) → answerOf (now (m .entry)) (dotRequest (now (url .entry)) (textsOf (now (settings .entry)) 0)) (now (path .exit)) r ≡ mainResolve (now (url .entry)) (textsOf (now (settings .entry)) 0) (mainExport (obj ms)) fresh) ⌝ }
 {
-    let dot = get(m, at, b".");
+    let dot = package_json::get(m, at, b".");
     match dot {
-        Cursor::At(i) => package_target_resolve(
+        Cursor::At(i) => package_target::package_target_resolve(
             m,
             i,
             14,
@@ -648,7 +362,7 @@ fn main_resolve(
             if subpaths {
                 return targets::without_path(Context::new(), Outcome::Nothing);
             }
-            package_target_resolve(
+            package_target::package_target_resolve(
                 m,
                 at,
                 15,
@@ -696,7 +410,7 @@ fn object_resolve(
     let subpaths = keys.subpath;
     let answer = main_resolve(m, at, subpaths, settings, url, work, path);
     let outcome = answer.outcome;
-    let nothing = is_nothing(outcome);
+    let nothing = package_target::is_nothing(outcome);
     if !nothing {
         return Resolved {
             answer,
@@ -724,7 +438,7 @@ fn whole_resolve(
     if !text::equal(subpath, b".") {
         return unresolved(Context::new(), Outcome::NotExported);
     }
-    let answer = package_target_resolve(
+    let answer = package_target::package_target_resolve(
         m,
         at,
         15,
@@ -737,7 +451,7 @@ fn whole_resolve(
         path,
     );
     let outcome = answer.outcome;
-    let nothing = is_nothing(outcome);
+    let nothing = package_target::is_nothing(outcome);
     if !nothing {
         return Resolved {
             answer,
@@ -767,7 +481,7 @@ pub fn package_exports_resolve(
     if work.len() < 1024 {
         return unresolved(Context::new(), Outcome::NotExported);
     }
-    let kind = kind_at(m, at);
+    let kind = package_target::kind_at(m, at);
     match kind {
         Kind::Scalar => unresolved(Context::new(), Outcome::NotExported),
         Kind::String => whole_resolve(m, at, settings, url, subpath, work, path),

@@ -1,8 +1,8 @@
 use borrow.Author.Needs.{needs}
-use mathlib.Core.Path.{_≡_, refl, sym, _∙_, ap}
-use Rattle.definition.specs.Exports.{patternMatch, PATTERN-KEY-COMPARE, bestKey}
+use mathlib.Core.Path.{refl, sym, _∙_, ap}
+use Rattle.definition.specs.Exports.{patternMatch, bestKey}
 use Rattle.targets.specs.Keys.{rankOf, orderOf, matchOf}
-use Rattle.exports.proofs.Places.{name-stands, text-target}
+use Rattle.package_target.proofs.Places.{name-stands, text-target}
 use Rattle.exports.proofs.Objects.{no-match, not-before, before-best, gt-is, lt-is, eq-is, best-rank}
 use Rattle.exports.proofs.better.Statement.{statement}
 use Rattle.exports.proofs.better.Tie as tie

@@ -1,8 +1,7 @@
 use borrow.Author.Needs.{needs}
-use mathlib.Core.Path.{_≡_, sym, _∙_, ap}
+use mathlib.Core.Path.{_∙_, ap}
 use Rattle.definition.specs.Exports.{isDotKey, isSubpathKey}
-use Rattle.exports.specs.Chosen.{aKey}
-use Rattle.exports.proofs.Places.{name-stands, text-target}
+use Rattle.package_target.proofs.Places.{name-stands, text-target}
 use Rattle.exports.proofs.key_at.Statement.{statement}
 use Rattle.exports.proofs.key_at.Tie as tie
 

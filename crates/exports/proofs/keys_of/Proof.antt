@@ -1,10 +1,10 @@
 use native.Mathlib.Omega.{arith}
 use borrow.Author.Needs.{needs}
 use mathlib.Core.Path.{_≡_, refl, _∙_}
-use Prim.Native.Nat.{_≤_}
 use lib.ListN.{length}
 use Rattle.definition.specs.Json.{Members, obj}
-use Rattle.exports.specs.Places.{Stands}
+use Rattle.package_target.specs.Places.{Stands}
+use Rattle.package_target.proofs.Places.{first-members}
 use Rattle.exports.proofs.Objects.{Keyed, keyed-start, keyed-done, keyed-over, keyed-on}
 use Rattle.exports.proofs.keys_of.Statement.{statement}
 use Rattle.exports.proofs.keys_of.Tie as tie
@@ -22,16 +22,16 @@ keys-of-spec =
     Inv-loop
     μ-loop
     (λ c κs. search needs)
-    (λ c. (refl, λ ms h. keyed-start (c .before .before .before .args .m .now) ms (c .members-of .result) (c .members-of .ensures 14 ms h)))
+    (λ c. (refl, λ ms h. keyed-start (c .before .before .before .args .m .now) ms (c .first-member .result) (first-members (c .before .before .before .args .m .now) (c .before .before .before .args .at) (c .first-member .result) (c .first-member .ensures) 14 ms h)))
     (λ c. search needs)
     (λ c. c .before .before .before .loop .inv .0)
     (λ c. λ ms h. keyed-done (c .before .before .before .loop .inv .1 ms h) (c .enum-told .given .1))
     (λ c. search needs)
+    (λ c κs. omega (arith, c .before .before .before .before .before .loop .inv .0, c .before .before .before .before .before .before .before .before .before .pre))
     (λ c κs. search needs)
-    (λ c κs. omega (arith, c .before .before .before .before .before .before .loop .inv .0, c .before .before .before .before .before .before .before .before .before .before .pre))
     (λ c κs. search needs)
     (λ c. search needs)
     (λ c. search needs)
-    (λ c. (c .before .before .before .key-at .kept .1 .1 .0 ∙ c .before .before .before .before .before .before .before .before .before .before .loop .inv .0, λ ms h. keyed-on (c .before .before .before .before .before .before .before .before .before .before .loop .inv .1 ms h) (c .before .before .before .before .before .before .before .cursor .given .1) (c .before .before .before .before .before .entry-at .result .value) (c .before .before .before .before .before .entry-at .result .next) (c .before .before .before .before .before .entry-at .ensures 14) (c .before .before .before .key-at .result) (c .before .before .before .key-at .ensures) (c .joined .result) (c .joined .ensures)))
+    (λ c. (c .before .before .before .before .key-at .kept .1 .1 .0 ∙ c .before .before .before .before .before .before .before .before .before .before .loop .inv .0, λ ms h. keyed-on (c .before .before .before .before .before .before .before .before .before .before .loop .inv .1 ms h) (c .before .before .before .before .before .before .before .cursor .given .1) (c .next-member .result) (c .next-member .ensures) (c .before .before .before .before .key-at .result) (c .before .before .before .before .key-at .ensures) (c .before .joined .result) (c .before .joined .ensures)))
     (λ c. c .before .loop .inv .0)
     (λ c. λ ms h. keyed-over (c .before .loop .inv .1 ms h) (c .loop-test .left)))

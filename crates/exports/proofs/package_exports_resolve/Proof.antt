@@ -5,7 +5,7 @@ use Rattle.definition.specs.Settings.{textsOf, settingsOf}
 use Rattle.definition.specs.Exports.{pathNotExported}
 use Rattle.targets.specs.declared.Outcome.the-variants.{NotExported}
 use Rattle.exports.specs.Chosen.{fresh}
-use Rattle.exports.proofs.Loops.{is-object}
+use Rattle.package_target.proofs.Loops.{is-object}
 use Rattle.exports.proofs.Resolutions.{subpath-is, exports-scalar, whole-string, whole-array}
 use Rattle.exports.proofs.package_exports_resolve.Statement.{statement}
 use Rattle.exports.proofs.package_exports_resolve.Tie as tie

@@ -2,14 +2,13 @@
 use mathlib.Core.Path.{_≡_}
 use Prim.Native.Nat.{ℕ}
 use mathlib.Core.List.{List}
-use mathlib.Core.Option.{Option, none, some}
 use lib.ListN.{drop}
 use Rattle.definition.specs.Json.{Json, scalar, str, arr, obj, Elements, noElement, Members, noMember}
 use Rattle.laws.specs.JsonAtLaws as at
 use Rattle.package_json.specs.declared.Cursor.{Cursor}
 use Rattle.package_json.specs.declared.Cursor.the-variants.{At, Nothing}
-use Rattle.exports.specs.declared.Kind.{Kind}
-use Rattle.exports.specs.declared.Kind.the-variants.{Scalar, String, Array, Object}
+use Rattle.package_target.specs.declared.Kind.{Kind}
+use Rattle.package_target.specs.declared.Kind.the-variants.{Scalar, String, Array, Object}
 
 pub record Stands (m : List ℕ) (d i : ℕ) (j : Json) : Type 0 where
   pub here : at.Stands d (drop i m) j
@@ -33,10 +32,3 @@ kindOf scalar = Scalar
 kindOf (str s) = String
 kindOf (arr js) = Array
 kindOf (obj ms) = Object
-
--- a member's value was looked for
-abbrev pub Finds : List ℕ → ℕ → Option Json → Cursor → Type 0
-Finds m d (some j) (At i) = Stands m d i j
-Finds m d (some j) Nothing = ⊥
-Finds m d none (At i) = ⊥
-Finds m d none Nothing = Unit {0}

@@ -1,8 +1,8 @@
 use borrow.Author.Needs.{needs}
-use mathlib.Core.Path.{_≡_, sym, _∙_}
-use Rattle.exports.proofs.Loops.{passed-nothing, passed-final, passed-other}
-use Rattle.exports.proofs.is_passed.Statement.{statement}
-use Rattle.exports.proofs.is_passed.Tie as tie
+use mathlib.Core.Path.{sym, _∙_}
+use Rattle.package_target.proofs.Loops.{passed-nothing, passed-final, passed-other}
+use Rattle.package_target.proofs.is_passed.Statement.{statement}
+use Rattle.package_target.proofs.is_passed.Tie as tie
 
 pub is-passed-spec : {M : Type 1} → statement M
 is-passed-spec =

@@ -2,9 +2,9 @@ use borrow.Author.Needs.{needs}
 use mathlib.Core.Path.{ap}
 use Rattle.definition.specs.JsonAt.{aScalar, aString, anArray, anObject}
 use Rattle.package_json.specs.Cursors as cursors
-use Rattle.exports.proofs.Places.{kind-arm, kind-none}
-use Rattle.exports.proofs.kind_at.Statement.{statement}
-use Rattle.exports.proofs.kind_at.Tie as tie
+use Rattle.package_target.proofs.Places.{kind-arm, kind-none}
+use Rattle.package_target.proofs.kind_at.Statement.{statement}
+use Rattle.package_target.proofs.kind_at.Tie as tie
 
 pub kind-at-spec : {M : Type 1} → statement M
 kind-at-spec =

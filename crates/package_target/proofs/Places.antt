@@ -2,20 +2,19 @@
 use mathlib.Core.Path.{_≡_, refl, sym, _∙_, ap}
 use mathlib.Core.Bool.{Bool, true, false, _&&_}
 use mathlib.Core.List.{List, [], _∷_}
-use mathlib.Core.Option.{Option, none, some}
-use Prim.Native.Nat.{ℕ, zero, suc, _+_, _-_, _<_, _≤_}
+use mathlib.Core.Option.{none, some}
+use Prim.Native.Nat.{ℕ, zero, suc, _-_, _≤_}
 use native.Mathlib.Omega.{arith}
 use lib.ListN.{length, drop}
 use lib.Dec.{eqb}
 use borrow.Author.Tests.{eq-eqb, ne-eqb, eqb-true, eqb-false}
-use Rattle.definition.specs.Text.{if_then_else_, equal}
+use Rattle.definition.specs.Text.{equal}
 use Rattle.definition.specs.Json.{Json, scalar, str, arr, obj, Elements, noElement, element, Members, noMember, member, Read, got, value, valueBy, quoted}
 use Rattle.definition.specs.JsonAt as json
-use Rattle.definition.specs.JsonAt.{aScalar, aString, anArray, anObject, kindAt, thenAt, firstMember, firstElement, nextElement, memberValue, nextMember, getAt, findMember, isText, nameIs, textAt}
+use Rattle.definition.specs.JsonAt.{aScalar, aString, anArray, anObject, kindAt, firstMember, firstElement, nextElement, memberValue, nextMember, isText, nameIs, textAt}
 use Rattle.laws.specs.JsonAtLaws as at
-use Rattle.laws.specs.JsonAtLaws.{members-there, no-members, elements-there, no-elements, text-shape, array-shape, object-shape, scalar-shape, finds, finds-none}
+use Rattle.laws.specs.JsonAtLaws.{members-there, no-members, elements-there, no-elements, text-shape, array-shape, object-shape, scalar-shape}
 use Rattle.laws.specs.JsonSoundLaws.{quoted-sound}
-use Rattle.definition.specs.Exports.{get, entries}
 use Rattle.package_json.specs.declared.Cursor.{Cursor}
 use Rattle.package_json.specs.declared.Cursor.the-variants.{At, Nothing}
 use Rattle.json_text.specs.declared.TextAt.{TextAt}
@@ -23,11 +22,11 @@ use Rattle.package_json.specs.declared.Kind as kind
 use Rattle.package_json.specs.Cursors as cursors
 use Rattle.package_json.specs.Cursors.{placed}
 use Rattle.json_text.specs.Texts.{textOf, told, orEmpty}
-use Rattle.exports.specs.declared.Kind.{Kind}
-use Rattle.exports.specs.declared.Kind.the-variants.{Scalar, String, Array, Object}
+use Rattle.package_target.specs.declared.Kind.{Kind}
+use Rattle.package_target.specs.declared.Kind.the-variants.{Scalar, String, Array, Object}
 use Rattle.targets.specs.Contexts.{readText, stringAt}
 use Rattle.targets.proofs.Contexts.{text-read}
-use Rattle.exports.specs.Places.{Stands, MembersAt, ElementsAt, MembersFrom, ElementsFrom, kindOf, Finds}
+use Rattle.package_target.specs.Places.{Stands, MembersAt, ElementsAt, MembersFrom, ElementsFrom, kindOf}
 
 none-of : {P : Type 0} → ⊥ → P
 none-of z = absurd z
@@ -47,21 +46,13 @@ elements-from : (m : List ℕ) (d n : ℕ) (js : Elements) (c : Cursor) → at.E
 elements-from m d n js (At i) (elements-there h) = record { here = h }
 elements-from m d n js Nothing h = none-elements h
 
-finds-from : (m : List ℕ) (d : ℕ) (o : Option Json) (c : Cursor) → at.Finds d o (placed m c) → Finds m d o c
-finds-from m d (some j) (At i) (finds h) = record { here = h }
-finds-from m d none Nothing finds-none = tt
-
--- the first of what a bracket opens, and the value of a name
+-- the first of what a bracket opens
 module _ (m : List ℕ) (i : ℕ) (c : Cursor) where
   pub first-members : placed m c ≡ firstMember (drop i m) → (d : ℕ) (ms : Members) → Stands m (suc d) i (obj ms) → MembersFrom m d 128 ms c
   first-members e d ms h = members-from m d 128 ms c (rw e (at.first-member (h .here)))
 
   pub first-elements : placed m c ≡ firstElement (drop i m) → (d : ℕ) (js : Elements) → Stands m (suc d) i (arr js) → ElementsFrom m d 128 js c
   first-elements e d js h = elements-from m d 128 js c (rw e (at.first-element (h .here)))
-
-  pub get-finds : (k : List ℕ) → placed m c ≡ getAt k (drop i m) → (d : ℕ) (ms : Members) → Stands m (suc d) i (obj ms) → Finds m d (get k (entries ms)) c
-  unfolding getAt
-  get-finds k e d ms h = finds-from m d (get k (entries ms)) c (rw e (at.find-here 128 k (at.first-member (h .here))))
 
   -- an element, and the next
   pub element-is : placed m c ≡ nextElement (drop i m) → (d n : ℕ) (j : Json) (js : Elements) → ElementsAt m d n i (element j js) → Stands m d i j × ElementsFrom m d (n - 1) js c
@@ -72,19 +63,34 @@ module _ (m : List ℕ) (i : ℕ) (c : Cursor) where
       let l : x .left ≡ n - 1 = omega (arith, x .count) in
       (record { here = rw a at (x .stands) }, elements-from m d (n - 1) js c (rw e (rw (l, b) at (x .next))))
 
-  -- a member, and the next
-  pub member-is : (v : ℕ) → some (drop v m) ≡ memberValue (drop i m) → placed m c ≡ nextElement (drop v m) → (d n : ℕ) (k : List ℕ) (j : Json) (ms : Members) → MembersAt m d n i (member k j ms) → Stands m d v j × MembersFrom m d (n - 1) ms c
-  unfolding nextMember
-  member-is v f e d n k j ms h =
+  -- the next member
+  pub next-member-is : placed m c ≡ nextMember (drop i m) → (d n : ℕ) (k : List ℕ) (j : Json) (ms : Members) → MembersAt m d n i (member k j ms) → MembersFrom m d (n - 1) ms c
+  next-member-is e d n k j ms h =
       let x = at.member-here (h .here) in
-      let a : x .first ≡ j = cc (x .is) in
       let b : x .others ≡ ms = cc (x .is) in
       let l : x .left ≡ n - 1 = omega (arith, x .count) in
-      let p : x .from ≡ drop v m = cc (x .place, f) in
-      (record { here = rw (p, a) at (x .stands) }, members-from m d (n - 1) ms c (rw e (rw (x .place, p, l, b) at (x .next))))
+      members-from m d (n - 1) ms c (rw e (rw (l, b) at (x .next)))
 
-pub member-no-value : (m : List ℕ) (i : ℕ) {P : Type 0} → none ≡ memberValue (drop i m) → (d n : ℕ) (ms : Members) → MembersAt m d n i ms → P
-member-no-value m i f d n ms h = none-of (let x = at.member-here (h .here) in let y = x .place in let z : _≡_ {A = ℕ} 0 1 = cc in omega arith)
+-- a member's value, and the next member behind it
+module _ (m : List ℕ) (i v : ℕ) (f : (s : List ℕ) → memberValue (drop i m) ≡ some s → drop v m ≡ s) (d n : ℕ) (k : List ℕ) (j : Json) (ms : Members) (h : MembersAt m d n i (member k j ms)) where
+  pub value-stands : Stands m d v j
+  value-stands =
+      let x = at.member-here (h .here) in
+      let a : x .first ≡ j = cc (x .is) in
+      record { here = rw (sym (f (x .from) (x .place)), a) at (x .stands) }
+
+  pub behind-value : (c : Cursor) → placed m c ≡ nextElement (drop v m) → MembersFrom m d (n - 1) ms c
+  unfolding nextMember
+  behind-value c e =
+      let x = at.member-here (h .here) in
+      next-member-is m i c (e ∙ rw (x .place, f (x .from) (x .place))) d n k j ms h
+
+-- a place that is there, or not
+pub no-value : (t s : List ℕ) → none ≡ some s → t ≡ s
+no-value t s e = none-of (let z : _≡_ {A = ℕ} 0 1 = cc in omega arith)
+
+pub value-is : (t s : List ℕ) → some t ≡ some s → t ≡ s
+value-is t s e = cc
 
 -- one member, one element
 pub record One (m : List ℕ) (d n i : ℕ) (ms : Members) : Type 0 where

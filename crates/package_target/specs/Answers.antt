@@ -1,30 +1,21 @@
--- What it is that a target was resolved, and which answers let another target be tried.
+-- The request that a target is resolved for, and which answers let another target be tried.
 use mathlib.Core.Path.{_≡_}
 use Prim.Native.Nat.{ℕ}
 use mathlib.Core.Bool.{Bool, true, false}
 use mathlib.Core.List.{List}
-use Rattle.definition.specs.Exports.{Request, PACKAGE-TARGET-RESOLVE}
-use Rattle.definition.specs.Json.{Json}
+use Rattle.definition.specs.Exports.{Request}
 use Rattle.definition.specs.Settings.{textsOf}
 use Rattle.package_json.specs.declared.Cursor.{Cursor}
 use Rattle.package_json.specs.declared.Cursor.the-variants.{At, Nothing as Done}
-use Rattle.targets.specs.declared.Context.{Context}
 use Rattle.targets.specs.declared.Form.{Form}
 use Rattle.targets.specs.declared.Outcome.{Outcome}
 use Rattle.targets.specs.declared.Outcome.the-variants.{Found, Nothing, Empty, InvalidTarget, NotExportedMatch, NotExported, ConfigMixed, ConfigDirectory, OverLong}
-use Rattle.targets.specs.declared.Answer.{Answer}
-use Rattle.targets.specs.Contexts.{contextOf}
-use Rattle.targets.specs.Answers.{answerOf, Asked}
-use Rattle.exports.specs.Places.{Stands}
+use Rattle.targets.specs.Answers.{Asked}
 
 -- a request, as far as it decides what a target gives, with the conditions of the settings
 pub record Requested (q : Request) (settings url : List ℕ) (form : Form) (pattern : List ℕ) : Type 0 where
   pub asked : Asked q url form pattern
   pub conditions : q .conditions ≡ textsOf settings 0
-
--- a target of the manifest m was resolved
-pub record Resolves (m : List ℕ) (at depth : ℕ) (settings url : List ℕ) (form : Form) (pattern : List ℕ) (c : Context) (path : List ℕ) (r : Answer) : Type 0 where
-  pub is : (q : Request) → Requested q settings url form pattern → (j : Json) → Stands m depth at j → answerOf m q path r ≡ PACKAGE-TARGET-RESOLVE q j (contextOf m c)
 
 -- which answers let the next condition, or the next element, be tried
 abbrev pub isNothing : Outcome → Bool

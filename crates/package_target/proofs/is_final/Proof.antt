@@ -1,8 +1,6 @@
 use borrow.Author.Needs.{needs}
-use Rattle.exports.proofs.is_final.Statement.{statement}
-use Rattle.exports.proofs.is_final.Tie as tie
-use Rattle.exports.proofs.is_final.Reads as reads
-use Rattle.exports.proofs.is_final.Lts as lts
+use Rattle.package_target.proofs.is_final.Statement.{statement}
+use Rattle.package_target.proofs.is_final.Tie as tie
 
 pub is-final-spec : {M : Type 1} → statement M
 is-final-spec =

@@ -1,31 +1,33 @@
 -- The loops over an array and over an object, against `PACKAGE_TARGET_RESOLVE`.
 use mathlib.Core.Path.{_≡_, refl, sym, _∙_, ap}
 use mathlib.Core.Bool.{Bool, true, false, _||_}
-use mathlib.Core.List.{List, [], _∷_}
-use mathlib.Core.Option.{Option}
-use Prim.Native.Nat.{ℕ, zero, suc, _+_, _-_, _<_, _≤_}
+use mathlib.Core.List.{List, []}
+use mathlib.Core.Option.{some}
+use Prim.Native.Nat.{ℕ, suc, _+_, _-_, _<_, _≤_}
 use native.Mathlib.Omega.{arith}
 use lib.ListN.{length, drop, take, getD, drop-of-length-le}
 use lib.Seq.{drop-cons}
 use native.Mathlib.Numerals.{add-one}
 use Rattle.definition.specs.Text.{text as bytes, if_then_else_, equal, isOneOf}
-use Rattle.definition.specs.Json.{Json, scalar, str, arr, obj, Elements, noElement, element, Members, noMember, member, got, quoted}
+use Rattle.definition.specs.Json.{Json, scalar, str, arr, obj, Elements, Members, member, got, quoted}
+use Rattle.definition.specs.JsonAt.{firstElement, firstMember, nextElement, memberValue}
 use Rattle.definition.specs.Settings.{textsOf}
 use Rattle.definition.specs.Specifier.{parseSpecifier}
 use Rattle.definition.specs.Exports as exports
-use Rattle.definition.specs.Exports.{Request, found, nothing, failed, overlong, orGoOn, orNext, isEmpty, pathNotExported, orDot, stringTarget, PACKAGE-TARGET-RESOLVE, eachCondition, eachElement}
-use Rattle.exports.specs.Places.{Stands, MembersAt, MembersFrom, ElementsAt, ElementsFrom, kindOf}
+use Rattle.definition.specs.Exports.{Request, nothing, orGoOn, orNext, isEmpty, pathNotExported, orDot, stringTarget, PACKAGE-TARGET-RESOLVE, eachCondition, eachElement}
+use Rattle.package_target.specs.Places.{Stands, MembersAt, MembersFrom, ElementsFrom, kindOf}
 use Rattle.package_json.specs.declared.Cursor.{Cursor}
 use Rattle.package_json.specs.declared.Cursor.the-variants.{At, Nothing as Done}
-use Rattle.exports.specs.declared.Kind.the-variants.{Scalar, String, Array, Object}
-use Rattle.exports.proofs.Places.{One, one, none-left, OneElement, one-of, no-element-left, array-depth, object-depth, equal-sym}
+use Rattle.package_json.specs.Cursors.{placed}
+use Rattle.package_target.specs.declared.Kind.the-variants.{Scalar, String, Array, Object}
+use Rattle.package_target.proofs.Places.{One, one, none-left, OneElement, one-of, no-element-left, array-depth, object-depth, first-elements, first-members, element-is, value-stands, behind-value, equal-sym}
 use Rattle.targets.specs.declared.Outcome.{Outcome}
 use Rattle.targets.specs.declared.Outcome.the-variants.{Found, Nothing, Empty, InvalidTarget, NotExportedMatch, NotExported, ConfigMixed, ConfigDirectory, OverLong}
 use Rattle.targets.specs.declared.Context.{Context}
 use Rattle.targets.specs.declared.Answer.{Answer}
 use Rattle.targets.specs.Contexts.{contextOf}
 use Rattle.targets.specs.Answers.{outcomeIn, answerOf}
-use Rattle.exports.specs.Answers.{isSome, isNothing, isFinal, isPassed}
+use Rattle.package_target.specs.Answers.{isSome, isNothing, isFinal, isPassed}
 
 none : {P : Type 0} → ⊥ → P
 none z = absurd z
@@ -155,13 +157,13 @@ module _ {m : List ℕ} {d : ℕ} {q : Request} {n : ℕ} {cursor : Cursor} {c :
       go Done e = array-done e
       go (At i) e = none (no-element-left (rw e at (g .from)) (let z : n ≡ 0 = omega arith in z))
 
-  module _ {i : ℕ} (e : cursor ≡ At i) (next : Cursor) (f : (n : ℕ) (j : Json) (js : Elements) → ElementsAt m d n i (element j js) → Stands m d i j × ElementsFrom m d (n - 1) js next)
+  module _ {i : ℕ} (e : cursor ≡ At i) (next : Cursor) (f : placed m next ≡ nextElement (drop i m))
       (path : List ℕ) (R : Answer) (r : (j : Json) → Stands m d i j → answerOf m q path R ≡ PACKAGE-TARGET-RESOLVE q j c) where
     this : OneElement m d n i (g .others)
     this = one-of (rw e at (g .from))
 
     both-this : Stands m d i (this .val) × ElementsFrom m d (n - 1) (this .others) next
-    both-this = f n (this .val) (this .others) (rw (this .is) at (rw e at (g .from)))
+    both-this = element-is m i next f d n (this .val) (this .others) (rw (this .is) at (rw e at (g .from)))
 
     step : x ≡ orNext (this .others) (answerOf m q path R) (λ c. eachElement q (this .others) c)
     unfolding eachElement
@@ -220,13 +222,16 @@ module _ {m : List ℕ} {d : ℕ} {q : Request} {n : ℕ} {cursor : Cursor} {c :
       go Done e = object-done e
       go (At i) e = none (none-left (rw e at (g .from)) (let z : n ≡ 0 = omega arith in z))
 
-  module _ {i : ℕ} (e : cursor ≡ At i) (v : ℕ) (next : Cursor) (f : (n : ℕ) (k : List ℕ) (j : Json) (ms : Members) → MembersAt m d n i (member k j ms) → Stands m d v j × MembersFrom m d (n - 1) ms next)
+  module _ {i : ℕ} (e : cursor ≡ At i) (v : ℕ) (f : (s : List ℕ) → memberValue (drop i m) ≡ some s → drop v m ≡ s)
       (settings : List ℕ) (s : q .conditions ≡ textsOf settings 0) (b : Bool) (p : (k s : List ℕ) → quoted (drop i m) ≡ got k s → b ≡ (equal k (bytes "default") || isOneOf (textsOf settings 0) k)) where
     that : One m d n i (g .others)
     that = one (rw e at (g .from))
 
-    both-that : Stands m d v (that .val) × MembersFrom m d (n - 1) (that .others) next
-    both-that = f n (that .name) (that .val) (that .others) (rw (that .is) at (rw e at (g .from)))
+    that-here : MembersAt m d n i (member (that .name) (that .val) (that .others))
+    that-here = rw (that .is) at (rw e at (g .from))
+
+    next-that : (next : Cursor) → placed m next ≡ nextElement (drop v m) → MembersFrom m d (n - 1) (that .others) next
+    next-that = behind-value m i v f d n (that .name) (that .val) (that .others) that-here
 
     holds-that : b ≡ (equal (that .name) (bytes "default") || isOneOf (q .conditions) (that .name))
     holds-that =
@@ -236,20 +241,20 @@ module _ {m : List ℕ} {d : ℕ} {q : Request} {n : ℕ} {cursor : Cursor} {c :
     unfolding eachCondition
     stepped = g .same ∙ ap (λ ms. eachCondition q ms c) (that .is) ∙ ap (λ y. if y then orGoOn (PACKAGE-TARGET-RESOLVE q (that .val) c) (λ d. eachCondition q (that .others) d) else eachCondition q (that .others) c) (sym holds-that)
 
-    pub object-skip : b ≡ false → ObjectLeft m d q (n - 1) next c x
-    object-skip h = record { others = that .others; from = both-that .1; same = stepped ∙ pick-false b (orGoOn (PACKAGE-TARGET-RESOLVE q (that .val) c) (λ d. eachCondition q (that .others) d)) (eachCondition q (that .others) c) h }
+    pub object-skip : b ≡ false → (next : Cursor) → placed m next ≡ nextElement (drop v m) → ObjectLeft m d q (n - 1) next c x
+    object-skip h next l = record { others = that .others; from = next-that next l; same = stepped ∙ pick-false b (orGoOn (PACKAGE-TARGET-RESOLVE q (that .val) c) (λ d. eachCondition q (that .others) d)) (eachCondition q (that .others) c) h }
 
     module _ (h : b ≡ true) (path : List ℕ) (R : Answer) (r : (j : Json) → Stands m d v j → answerOf m q path R ≡ PACKAGE-TARGET-RESOLVE q j c) where
       taken : x ≡ orGoOn (answerOf m q path R) (λ d. eachCondition q (that .others) d)
       taken =
           stepped ∙ pick-true b (orGoOn (PACKAGE-TARGET-RESOLVE q (that .val) c) (λ d. eachCondition q (that .others) d)) (eachCondition q (that .others) c) h
-          ∙ ap (λ y. orGoOn y (λ d. eachCondition q (that .others) d)) (sym (r (that .val) (both-that .0)))
+          ∙ ap (λ y. orGoOn y (λ d. eachCondition q (that .others) d)) (sym (r (that .val) (value-stands m i v f d n (that .name) (that .val) (that .others) that-here)))
 
       pub object-stop : isNothing (R .outcome) ≡ false → x ≡ answerOf m q path R
       object-stop u = taken ∙ go-stop q (contextOf m (R .context)) (take (R .len) path) (R .outcome) (λ d. eachCondition q (that .others) d) u
 
-      pub object-on : isNothing (R .outcome) ≡ true → ObjectLeft m d q (n - 1) next (contextOf m (R .context)) x
-      object-on u = record { others = that .others; from = both-that .1; same = taken ∙ go-on q (contextOf m (R .context)) (take (R .len) path) (R .outcome) (λ d. eachCondition q (that .others) d) u }
+      pub object-on : isNothing (R .outcome) ≡ true → (next : Cursor) → placed m next ≡ nextElement (drop v m) → ObjectLeft m d q (n - 1) next (contextOf m (R .context)) x
+      object-on u next l = record { others = that .others; from = next-that next l; same = taken ∙ go-on q (contextOf m (R .context)) (take (R .len) path) (R .outcome) (λ d. eachCondition q (that .others) d) u }
 
 -- brackets where no depth is left
 module _ {m : List ℕ} {d i : ℕ} {j : Json} (h : Stands m d i j) where
@@ -265,24 +270,24 @@ module _ (m : List ℕ) (d i : ℕ) (q : Request) (j : Json) (c : exports.Contex
   text-leaf x e f = let k = is-text j e in f d (k .0) (rw (k .1) at h) ∙ sym (resolve-text q (k .0) c) ∙ ap (λ j. PACKAGE-TARGET-RESOLVE q j c) (sym (k .1))
 
   module _ (z : d ≡ 0 → ⊥) (cursor : Cursor) where
-    array-first : (js : Elements) → j ≡ arr js → ((d : ℕ) (js : Elements) → Stands m (suc d) i (arr js) → ElementsFrom m d 128 js cursor) → ElementsFrom m (d - 1) 128 js cursor
-    array-first js e f = f (d - 1) js (deeper m d i (arr js) z (rw e at h))
+    array-first : (js : Elements) → j ≡ arr js → placed m cursor ≡ firstElement (drop i m) → ElementsFrom m (d - 1) 128 js cursor
+    array-first js e f = first-elements m i cursor f (d - 1) js (deeper m d i (arr js) z (rw e at h))
 
-    pub array-nil : Array ≡ kindOf j → ((d : ℕ) (js : Elements) → Stands m (suc d) i (arr js) → ElementsFrom m d 128 js cursor) → isSome cursor ≡ false → emptyArray q c ≡ PACKAGE-TARGET-RESOLVE q j c
+    pub array-nil : Array ≡ kindOf j → placed m cursor ≡ firstElement (drop i m) → isSome cursor ≡ false → emptyArray q c ≡ PACKAGE-TARGET-RESOLVE q j c
     array-nil e f n =
         let k = is-array j e in
         sym (array-empty m (d - 1) q c (k .0) cursor (array-first (k .0) (k .1) f) n) ∙ ap (λ j. PACKAGE-TARGET-RESOLVE q j c) (sym (k .1))
 
-    pub array-start : Array ≡ kindOf j → ((d : ℕ) (js : Elements) → Stands m (suc d) i (arr js) → ElementsFrom m d 128 js cursor) → isSome cursor ≡ true → ArrayLeft m (d - 1) q 128 cursor c (PACKAGE-TARGET-RESOLVE q j c)
+    pub array-start : Array ≡ kindOf j → placed m cursor ≡ firstElement (drop i m) → isSome cursor ≡ true → ArrayLeft m (d - 1) q 128 cursor c (PACKAGE-TARGET-RESOLVE q j c)
     array-start e f n =
         let k = is-array j e in
         let s = array-begin m (d - 1) q c (k .0) cursor (array-first (k .0) (k .1) f) n in
         record { others = s .others; from = s .from; same = ap (λ j. PACKAGE-TARGET-RESOLVE q j c) (k .1) ∙ s .same }
 
-    pub object-start : Object ≡ kindOf j → ((d : ℕ) (ms : Members) → Stands m (suc d) i (obj ms) → MembersFrom m d 128 ms cursor) → ObjectLeft m (d - 1) q 128 cursor c (PACKAGE-TARGET-RESOLVE q j c)
+    pub object-start : Object ≡ kindOf j → placed m cursor ≡ firstMember (drop i m) → ObjectLeft m (d - 1) q 128 cursor c (PACKAGE-TARGET-RESOLVE q j c)
     object-start e f =
         let k = is-object j e in
-        let s = object-begin m (d - 1) q c (k .0) cursor (f (d - 1) (k .0) (deeper m d i (obj (k .0)) z (rw (k .1) at h))) in
+        let s = object-begin m (d - 1) q c (k .0) cursor (first-members m i cursor f (d - 1) (k .0) (deeper m d i (obj (k .0)) z (rw (k .1) at h))) in
         record { others = s .others; from = s .from; same = ap (λ j. PACKAGE-TARGET-RESOLVE q j c) (k .1) ∙ s .same }
 
 -- which outcomes are passed

@@ -1,0 +1,165 @@
+-- `package_target_resolve` calls itself with the depth one less. Each loop's invariant: what is left of the array or the object, from the
+-- context so far, gives what the whole gives.
+use mathlib.Core.Path.{_≡_, refl, sym, _∙_}
+use Prim.Native.Nat.{_-_, _≤_}
+use native.Mathlib.Omega.{arith}
+use borrow.Author.Tests.{not-true, not-false}
+use borrow.Author.Needs.{needs}
+use lib.ListN.{length}
+use Rattle.definition.specs.Json.{Json}
+use Rattle.definition.specs.Exports.{Request, PACKAGE-TARGET-RESOLVE}
+use Rattle.package_target.specs.Places.{Stands}
+use Rattle.targets.specs.declared.Outcome.the-variants.{Nothing, NotExportedMatch}
+use Rattle.targets.specs.Contexts.{contextOf}
+use Rattle.package_target.specs.Answers.{Requested}
+use Rattle.targets.proofs.Targets.{outcome-is}
+use Rattle.package_target.proofs.Loops.{ArrayLeft, ObjectLeft, resolve-scalar, text-leaf, array-shallow, object-shallow, array-nil, array-start, object-start, array-done, array-over, array-stop, array-on, object-done, object-over, object-skip, object-stop, object-on}
+use Prim.Native.Nat.{ℕ, _<_}
+use borrow.Fn.Kinds.{In}
+use borrow.Fn.PlainCycle.{Measures, is, falls, and}
+use Rattle.package_target.proofs.package_target_resolve.Reads as package-target-resolve
+use Rattle.package_target.proofs.package_target_resolve.Kinds as package-target-resolve-kinds
+use Rattle.package_target.proofs.+package_target_resolve.Lts-package_target_resolve as package-target-resolve-lts
+use Rattle.package_target.proofs.condition_holds.Reads as condition-holds-reads
+use Rattle.package_json.proofs.first_element.Reads as first-element-reads
+use Rattle.package_target.proofs.value_at.Reads as value-at-reads
+use Rattle.package_target.proofs.is_nothing.Reads as is-nothing-reads
+use Rattle.package_target.proofs.is_passed.Reads as is-passed-reads
+use Rattle.package_target.proofs.is_some.Reads as is-some-reads
+use Rattle.package_target.proofs.kind_at.Reads as kind-at-reads
+use Rattle.package_json.proofs.first_member.Reads as first-member-reads
+use Rattle.package_json.proofs.next_element.Reads as next-element-reads
+use Rattle.package_target.proofs.string_target.Reads as string-target-reads
+use Rattle.targets.proofs.without_path.Reads as without-path-reads
+use Rattle.package_target.proofs.+package_target_resolve.{statement}
+use Rattle.package_target.proofs.+package_target_resolve.Tie.{close}
+
+abbrev μ-package-target-resolve : Measures 6 package-target-resolve-kinds.ps ℕ
+μ-package-target-resolve κs a = a .1 .1 .0
+
+abbrev package-target-resolve-at : ℕ → In 6 package-target-resolve-kinds.ps
+package-target-resolve-at t =
+    and
+    6
+    package-target-resolve-kinds.ps
+    (is 6 package-target-resolve-kinds.ps μ-package-target-resolve t)
+    package-target-resolve.Pre
+
+abbrev package-target-resolve-below : ℕ → In 6 package-target-resolve-kinds.ps
+package-target-resolve-below t =
+    and
+    6
+    package-target-resolve-kinds.ps
+    (falls 6 package-target-resolve-kinds.ps _<_ μ-package-target-resolve t)
+    package-target-resolve.Pre
+
+abbrev package-target-resolve-Inv-loop : package-target-resolve-lts.InvT-loop
+package-target-resolve-Inv-loop m at depth settings url form pattern work₀ path₀ cursor₀ some context₀ left₀ work path cursor context left =
+    (length work ≡ length work₀) × ((q : Request) (j : Json) → 1024 ≤ length work₀ → Requested q settings url form pattern → Stands m depth at j → ArrayLeft m (depth - 1) q left cursor (contextOf m context) (PACKAGE-TARGET-RESOLVE q j (contextOf m context₀)))
+
+abbrev package-target-resolve-μ-loop : package-target-resolve-lts.MeasureT-loop
+package-target-resolve-μ-loop m at depth settings url form pattern work₀ path₀ cursor₀ some context₀ left₀ work path cursor context left =
+    left
+
+abbrev package-target-resolve-Inv-loop2 : package-target-resolve-lts.InvT-loop2
+package-target-resolve-Inv-loop2 m at depth settings url form pattern work₀ path₀ cursor₀ context₀ left₀ work path cursor context left =
+    (length work ≡ length work₀) × ((q : Request) (j : Json) → 1024 ≤ length work₀ → Requested q settings url form pattern → Stands m depth at j → ObjectLeft m (depth - 1) q left cursor (contextOf m context) (PACKAGE-TARGET-RESOLVE q j (contextOf m context₀)))
+
+abbrev package-target-resolve-μ-loop2 : package-target-resolve-lts.MeasureT-loop2
+package-target-resolve-μ-loop2 m at depth settings url form pattern work₀ path₀ cursor₀ context₀ left₀ work path cursor context left =
+    left
+
+pub +package-target-resolve-spec : {M : Type 1} → statement M
++package-target-resolve-spec = close μ-package-target-resolve λ t. package-target-resolve-lts.spec (
+  kind-at-reads.Asked,
+  kind-at-reads.Learnt,
+  without-path-reads.Asked,
+  without-path-reads.Learnt,
+  string-target-reads.Asked,
+  string-target-reads.Learnt,
+  first-element-reads.Asked,
+  first-element-reads.Learnt,
+  is-some-reads.Asked,
+  is-some-reads.Learnt,
+  next-element-reads.Asked,
+  next-element-reads.Learnt,
+  package-target-resolve-below t,
+  package-target-resolve.Post,
+  is-passed-reads.Asked,
+  is-passed-reads.Learnt,
+  first-member-reads.Asked,
+  first-member-reads.Learnt,
+  value-at-reads.Asked,
+  value-at-reads.Learnt,
+  condition-holds-reads.Asked,
+  condition-holds-reads.Learnt,
+  is-nothing-reads.Asked,
+  is-nothing-reads.Learnt,
+)
+    (package-target-resolve-at t)
+    package-target-resolve.Post
+    package-target-resolve-Inv-loop
+    package-target-resolve-μ-loop
+    package-target-resolve-Inv-loop2
+    package-target-resolve-μ-loop2
+    (λ c κs. search needs)
+    (λ c. search needs)
+    (λ c κs. search needs)
+    (λ c. search needs)
+    (λ c κs. search needs)
+    (λ c. search needs)
+    (λ c κs. search needs)
+    (λ c. (λ q j w a h. absurd (array-shallow h (sym (c .before .before .enum-told3 .given .1) ∙ c .before .before .before .before .kind-at .ensures _ j h) (c .before .if1 .taken)), refl))
+    (λ c κs. search needs)
+    (λ c κs. search needs)
+    (λ c κs. search needs)
+    (λ c. (λ q j w a h. outcome-is _ q _ (c .without-path3 .result) (c .before .before .before .before .before .before .before .before .before .before .before .before .before .args .c) NotExportedMatch (c .without-path3 .ensures) ∙ array-nil (c .before .before .before .before .before .before .before .before .before .before .before .before .before .args .m .now) (c .before .before .before .before .before .before .before .before .before .before .before .before .before .args .depth) (c .before .before .before .before .before .before .before .before .before .before .before .before .before .args .at) q j (contextOf (c .before .before .before .before .before .before .before .before .before .before .before .before .before .args .m .now) (c .before .before .before .before .before .before .before .before .before .before .before .before .before .args .c)) h (c .before .before .before .before .if1 .left) (c .before .before .before .first-element .result) (sym (c .before .before .before .before .before .enum-told3 .given .1) ∙ c .before .before .before .before .before .before .before .kind-at .ensures _ j h) (c .before .before .before .first-element .ensures) (sym (c .before .before .is-some .ensures) ∙ not-true _ (c .before .if2 .taken)), refl))
+    (λ c. (refl, λ q j w a h. array-start (c .before .before .before .before .before .before .before .before .before .before .before .before .args .m .now) (c .before .before .before .before .before .before .before .before .before .before .before .before .args .depth) (c .before .before .before .before .before .before .before .before .before .before .before .before .args .at) q j (contextOf (c .before .before .before .before .before .before .before .before .before .before .before .before .args .m .now) (c .before .before .before .before .before .before .before .before .before .before .before .before .args .c)) h (c .before .before .before .if1 .left) (c .before .before .first-element .result) (sym (c .before .before .before .before .enum-told3 .given .1) ∙ c .before .before .before .before .before .before .kind-at .ensures _ j h) (c .before .before .first-element .ensures) (sym (c .before .is-some .ensures) ∙ not-false _ (c .if2 .left))))
+    (λ c. search needs)
+    (λ c κs. search needs)
+    (λ c. c .before .before .before .before .loop .inv .0)
+    (λ c. (λ q j w a h. outcome-is _ q _ (c .without-path4 .result) (c .before .before .before .before .loop .context) Nothing (c .without-path4 .ensures) ∙ sym (array-done (c .before .before .before .before .loop .inv .1 q j w a h) (c .before .enum-told4 .given .1)), c .before .before .before .before .loop .inv .0))
+    (λ c. search needs)
+    (λ c κs. search needs)
+    (λ c. search needs)
+    (λ c κs. search needs)
+    (λ c κs. search needs)
+    (λ c. c .before .before .before .before .package-target-resolve .kept .1 .1 .1 .1 .1 .1 .1 .1 .0 ∙ c .before .before .before .before .before .before .before .before .before .before .before .before .loop .inv .0)
+    (λ c. (λ q j w a h. sym (array-stop (c .before .before .before .before .before .before .before .before .before .before .before .before .loop .inv .1 q j w a h) (c .before .before .before .before .before .before .before .before .before .cursor .given .1) (c .before .before .before .before .before .before .before .next-element .result) (c .before .before .before .before .before .before .before .next-element .ensures) _ (c .before .before .before .before .package-target-resolve .result) (λ j s. c .before .before .before .before .package-target-resolve .ensures .0 q j (omega (arith, c .before .before .before .before .before .before .before .before .before .before .before .before .loop .inv .0, w)) a s) (sym (c .before .is-passed .ensures) ∙ not-true _ (c .if3 .taken))), c .before .before .before .before .package-target-resolve .kept .1 .1 .1 .1 .1 .1 .1 .1 .0 ∙ c .before .before .before .before .before .before .before .before .before .before .before .before .loop .inv .0))
+    (λ c. search needs)
+    (λ c. search needs)
+    (λ c. (c .before .before .before .before .before .package-target-resolve .kept .1 .1 .1 .1 .1 .1 .1 .1 .0 ∙ c .before .before .before .before .before .before .before .before .before .before .before .before .before .loop .inv .0, λ q j w a h. array-on (c .before .before .before .before .before .before .before .before .before .before .before .before .before .loop .inv .1 q j w a h) (c .before .before .before .before .before .before .before .before .before .before .cursor .given .1) (c .before .before .before .before .before .before .before .before .next-element .result) (c .before .before .before .before .before .before .before .before .next-element .ensures) _ (c .before .before .before .before .before .package-target-resolve .result) (λ j s. c .before .before .before .before .before .package-target-resolve .ensures .0 q j (omega (arith, c .before .before .before .before .before .before .before .before .before .before .before .before .before .loop .inv .0, w)) a s) (sym (c .before .before .is-passed .ensures) ∙ not-false _ (c .before .if3 .left))))
+    (λ c κs. search needs)
+    (λ c. search needs)
+    (λ c κs. search needs)
+    (λ c. (λ q j w a h. absurd (object-shallow h (sym (c .before .before .enum-told5 .given .1) ∙ c .before .before .before .before .kind-at .ensures _ j h) (c .before .if4 .taken)), refl))
+    (λ c κs. search needs)
+    (λ c. (refl, λ q j w a h. object-start (c .before .before .before .before .before .before .before .before .before .before .args .m .now) (c .before .before .before .before .before .before .before .before .before .before .args .depth) (c .before .before .before .before .before .before .before .before .before .before .args .at) q j (contextOf (c .before .before .before .before .before .before .before .before .before .before .args .m .now) (c .before .before .before .before .before .before .before .before .before .before .args .c)) h (c .before .if4 .left) (c .first-member .result) (sym (c .before .before .enum-told5 .given .1) ∙ c .before .before .before .before .kind-at .ensures _ j h) (c .first-member .ensures)))
+    (λ c. search needs)
+    (λ c κs. search needs)
+    (λ c. c .before .before .before .before .loop2 .inv .0)
+    (λ c. (λ q j w a h. outcome-is _ q _ (c .without-path7 .result) (c .before .before .before .before .loop2 .context) Nothing (c .without-path7 .ensures) ∙ sym (object-done (c .before .before .before .before .loop2 .inv .1 q j w a h) (c .before .enum-told6 .given .1)), c .before .before .before .before .loop2 .inv .0))
+    (λ c. search needs)
+    (λ c κs. search needs)
+    (λ c κs. search needs)
+    (λ c. search needs)
+    (λ c κs. search needs)
+    (λ c κs. search needs)
+    (λ c. c .before .before .before .before .package-target-resolve2 .kept .1 .1 .1 .1 .1 .1 .1 .1 .0 ∙ c .before .before .before .before .before .before .before .before .before .before .before .before .before .before .loop2 .inv .0)
+    (λ c. (λ q j w a h. sym (object-stop (c .before .before .before .before .before .before .before .before .before .before .before .before .before .before .loop2 .inv .1 q j w a h) (c .before .before .before .before .before .before .before .before .before .before .before .cursor2 .given .1) (c .before .before .before .before .before .before .before .before .before .value-at .result) (c .before .before .before .before .before .before .before .before .before .value-at .ensures) (c .before .before .before .before .before .before .before .before .before .before .before .before .before .before .before .before .before .before .before .before .before .before .before .before .before .args .settings .now) (a .conditions) (c .before .before .before .before .before .before .before .before .condition-holds .result) (c .before .before .before .before .before .before .before .before .condition-holds .ensures) (c .before .before .before .before .before .before .before .if5 .taken) _ (c .before .before .before .before .package-target-resolve2 .result) (λ j s. c .before .before .before .before .package-target-resolve2 .ensures .0 q j (omega (arith, c .before .before .before .before .before .before .before .before .before .before .before .before .before .before .loop2 .inv .0, w)) a s) (sym (c .before .is-nothing .ensures) ∙ not-true _ (c .if6 .taken))), c .before .before .before .before .package-target-resolve2 .kept .1 .1 .1 .1 .1 .1 .1 .1 .0 ∙ c .before .before .before .before .before .before .before .before .before .before .before .before .before .before .loop2 .inv .0))
+    (λ c κs. search needs)
+    (λ c. search needs)
+    (λ c. search needs)
+    (λ c. (c .before .before .before .before .before .before .package-target-resolve2 .kept .1 .1 .1 .1 .1 .1 .1 .1 .0 ∙ c .before .before .before .before .before .before .before .before .before .before .before .before .before .before .before .before .loop2 .inv .0, λ q j w a h. object-on (c .before .before .before .before .before .before .before .before .before .before .before .before .before .before .before .before .loop2 .inv .1 q j w a h) (c .before .before .before .before .before .before .before .before .before .before .before .before .before .cursor2 .given .1) (c .before .before .before .before .before .before .before .before .before .before .before .value-at .result) (c .before .before .before .before .before .before .before .before .before .before .before .value-at .ensures) (c .before .before .before .before .before .before .before .before .before .before .before .before .before .before .before .before .before .before .before .before .before .before .before .before .before .before .before .args .settings .now) (a .conditions) (c .before .before .before .before .before .before .before .before .before .before .condition-holds .result) (c .before .before .before .before .before .before .before .before .before .before .condition-holds .ensures) (c .before .before .before .before .before .before .before .before .before .if5 .taken) _ (c .before .before .before .before .before .before .package-target-resolve2 .result) (λ j s. c .before .before .before .before .before .before .package-target-resolve2 .ensures .0 q j (omega (arith, c .before .before .before .before .before .before .before .before .before .before .before .before .before .before .before .before .loop2 .inv .0, w)) a s) (sym (c .before .before .before .is-nothing .ensures) ∙ not-false _ (c .before .before .if6 .left)) (c .next-element2 .result) (c .next-element2 .ensures)))
+    (λ c κs. search needs)
+    (λ c. search needs)
+    (λ c. search needs)
+    (λ c. (c .before .before .before .before .before .before .before .before .loop2 .inv .0, λ q j w a h. object-skip (c .before .before .before .before .before .before .before .before .loop2 .inv .1 q j w a h) (c .before .before .before .before .before .cursor2 .given .1) (c .before .before .before .value-at .result) (c .before .before .before .value-at .ensures) (c .before .before .before .before .before .before .before .before .before .before .before .before .before .before .before .before .before .before .before .args .settings .now) (a .conditions) (c .before .before .condition-holds .result) (c .before .before .condition-holds .ensures) (c .before .if5 .left) (c .next-element3 .result) (c .next-element3 .ensures)))
+    (λ c κs. search needs)
+    (λ c. (λ q j w a h. outcome-is _ q _ (c .without-path .result) (c .before .before .before .before .before .before .before .before .before .args .c) Nothing (c .without-path .ensures) ∙ sym (resolve-scalar q j (contextOf (c .before .before .before .before .before .before .before .before .before .args .m .now) (c .before .before .before .before .before .before .before .before .before .args .c)) (sym (c .before .enum-told .given .1) ∙ c .before .before .before .kind-at .ensures _ j h)), refl))
+    (λ c. c .before .before .string-target .kept .1 .1 .1 .1 .1 .1 .0)
+    (λ c. (λ q j w a h. text-leaf (c .before .before .before .before .before .before .before .before .before .before .before .before .before .args .m .now) (c .before .before .before .before .before .before .before .before .before .before .before .before .before .args .depth) (c .before .before .before .before .before .before .before .before .before .before .before .before .before .args .at) q j (contextOf (c .before .before .before .before .before .before .before .before .before .before .before .before .before .args .m .now) (c .before .before .before .before .before .before .before .before .before .before .before .before .before .args .c)) h _ (sym (c .before .before .before .before .before .enum-told2 .given .1) ∙ c .before .before .before .before .before .before .before .kind-at .ensures _ j h) (λ d s g. c .before .before .string-target .ensures q d s w (a .asked) g), c .before .before .string-target .kept .1 .1 .1 .1 .1 .1 .0))
+    (λ c. c .before .before .loop .inv .0)
+    (λ c. (λ q j w a h. outcome-is _ q _ (c .without-path5 .result) (c .before .before .loop .context) Nothing (c .without-path5 .ensures) ∙ sym (array-over (c .before .before .loop .inv .1 q j w a h) (c .before .loop-test .left)), c .before .before .loop .inv .0))
+    (λ c. c .before .before .loop2 .inv .0)
+    (λ c. (λ q j w a h. outcome-is _ q _ (c .without-path8 .result) (c .before .before .loop2 .context) Nothing (c .without-path8 .ensures) ∙ sym (object-over (c .before .before .loop2 .inv .1 q j w a h) (c .before .loop2-test .left)), c .before .before .loop2 .inv .0))
