@@ -2,7 +2,9 @@ use mathlib.Core.Path.{_∙_}
 use native.Mathlib.Omega.{arith}
 use borrow.Author.Tests.{not-true, not-false}
 use Rattle.laws.specs.FitLaws.{normalized-short}
-use Rattle.resolver.proofs.Modules.{stays, stays-inside, climbs-out, normalized-here}
+use Rattle.directory.proofs.Rooms.{was-done}
+use Rattle.package_exports.proofs.Fits.{fits}
+use Rattle.resolver.proofs.Lookups.{stays, stays-inside, climbs-out, normalized-here}
 use borrow.Author.Needs.{needs}
 use Rattle.resolver.proofs.load_climbing.Statement.{statement}
 use Rattle.resolver.proofs.load_climbing.Tie as tie
@@ -26,10 +28,7 @@ load-climbing-spec =
     let k = c .before .before .climbs in
     let p = c .before .before .before .first .ensures ∙ normalized-here _ _ _ (c .before .before .before .before .before .before .before .before .before .before .before .before .before .before .before .before .before .before .before .before .pre .1) (c .before .before .before .before .before .before .before .normalized .ensures) in
     rw (c .next2 .ensures) (stays-inside _ _ (m .result) (k .result) (m .ensures) (not-false (m .result) (c .before .before .before .before .before .before .before .before .before .before .if1 .left)) (rw p at (k .ensures)) _ (not-true (k .result) (c .before .if2 .taken))))
-    (λ c κs.
-    let h = c .before .before .before .before .before .before .before .before .before .before .before .before .before .before .before .before .before .before .before .before .before .before .before .pre in
-    let p = c .before .before .before .before .before .before .first .ensures ∙ normalized-here _ _ _ (h .1) (c .before .before .before .before .before .before .before .before .before .before .normalized .ensures) in
-    (h .0, rw p (omega (arith, normalized-short 512 (c .before .before .before .before .before .before .before .before .before .before .before .before .before .before .before .before .before .before .before .before .before .before .before .args .spec .now) (h .1)))))
+    (λ c κs. search needs)
     (λ c. search needs)
     (λ c. search needs)
     (λ c. search needs)
@@ -38,4 +37,5 @@ load-climbing-spec =
     let m = c .before .before .before .before .before .before .before .before .before .before .before .before .before .before .before .before .before .before .before .before .before .before .before .may-climb in
     let k = c .before .before .before .before .before .before .before .before .before .before .before .before .before .before .climbs in
     let p = c .before .before .before .before .before .before .before .before .before .before .before .before .before .before .before .first .ensures ∙ normalized-here _ _ _ (c .before .before .before .before .before .before .before .before .before .before .before .before .before .before .before .before .before .before .before .before .before .before .before .before .before .before .before .before .before .before .before .before .pre .1) (c .before .before .before .before .before .before .before .before .before .before .before .before .before .before .before .before .before .before .before .normalized .ensures) in
-    climbs-out _ _ (m .result) (k .result) (m .ensures) (not-false (m .result) (c .before .before .before .before .before .before .before .before .before .before .before .before .before .before .before .before .before .before .before .before .before .before .if1 .left)) (rw p at (k .ensures)) (not-false (k .result) (c .before .before .before .before .before .before .before .before .before .before .before .before .before .if2 .left)) (rw p at (c .before .before .before .before .before .before .before .before .load-node-modules .ensures))))
+    let q = c .before .before .before .before .before .before .before .before .before .before .before .before .before .before .before .before .before .before .before .before .before .before .before .before .before .before .before .before .before .before .before .before .pre in
+    climbs-out _ _ (m .result) (k .result) (m .ensures) (not-false (m .result) (c .before .before .before .before .before .before .before .before .before .before .before .before .before .before .before .before .before .before .before .before .before .before .if1 .left)) (rw p at (k .ensures)) (not-false (k .result) (c .before .before .before .before .before .before .before .before .before .before .before .before .before .if2 .left)) (was-done (fits _ _ (q .0) (omega (arith, normalized-short 512 (c .before .before .before .before .before .before .before .before .before .before .before .before .before .before .before .before .before .before .before .before .before .before .before .before .before .before .before .before .before .before .before .before .args .spec .now) (q .1)))) (rw p at (c .before .before .before .before .before .before .before .before .load-node-modules .ensures)))))

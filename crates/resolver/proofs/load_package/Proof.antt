@@ -8,11 +8,6 @@ use Rattle.resolver.specs.Routines.{loadPackage}
 use borrow.Author.Needs.{needs}
 use Rattle.resolver.proofs.load_package.Statement.{statement}
 use Rattle.resolver.proofs.load_package.Tie as tie
-use Rattle.resolver.proofs.load_package.Reads as reads
-use Rattle.resolver.proofs.load_package.Lts as lts
-use Rattle.package_exports.proofs.load_package_self.Reads as load-package-self-reads
-use Rattle.resolver.proofs.load_climbing.Reads as load-climbing-reads
-use Rattle.resolver.proofs.load_node_modules.Reads as load-node-modules-reads
 
 pub load-package-spec : {M : Type 1} → statement M
 unfolding loadPackage _>>_
@@ -30,10 +25,7 @@ load-package-spec =
     let p = c .before .before .before .before .before .before .before .before .before .before .before .before .before .before .before .before .before .before .before .before .before .before .before .pre in
     let a = c .before .before .before .before .before .before .before .before .before .before .load-package-self in
     way-passed (a .result .way) _ (was-done (fits _ _ (p .0) (omega (arith, p .1))) (a .ensures)) (c .before .match .keys2))
-    (λ c κs.
-    let p = c .before .before .before .before .before .before .before .before .before .before .before .before .before .before .before .before .before .before .before .before .before .before .before .before .before .before .before .pre in
-    let a = c .before .before .before .before .before .before .before .before .before .before .before .before .before .before .load-package-self .kept .1 .1 .1 .1 .1 .1 .1 .1 .0 in
-    (omega (arith, p .0), omega (arith, p .1)))
+    (λ c κs. search needs)
     (λ c. search needs)
     (λ c. search needs)
     (λ c. search needs)
@@ -44,7 +36,7 @@ load-package-spec =
     let p = c .before .before .before .before .before .before .before .before .before .before .before .before .before .before .before .before .before .before .before .before .before .before .before .before .before .before .before .before .before .before .before .before .before .before .before .before .before .before .pre in
     let a = c .before .before .before .before .before .before .before .before .before .before .before .before .before .before .before .before .before .before .before .before .before .before .before .before .before .load-package-self in
     let b = c .before .before .before .before .before .before .before .before .before .before .load-node-modules in
-    way-onward (a .result .way) _ (was-done (fits _ _ (p .0) (omega (arith, p .1))) (a .ensures)) (c .before .before .before .before .before .before .before .before .before .before .before .before .before .before .before .enum-told .given .1) (way-passed (b .result .way) _ (b .ensures) (c .before .match2 .keys2)))
+    way-onward (a .result .way) _ (was-done (fits _ _ (p .0) (omega (arith, p .1))) (a .ensures)) (c .before .before .before .before .before .before .before .before .before .before .before .before .before .before .before .enum-told .given .1) (way-passed (b .result .way) _ (was-done (fits _ _ (omega (arith, p .0, a .kept .1 .1 .1 .1 .1 .1 .1 .1 .0)) (omega (arith, p .1))) (b .ensures)) (c .before .match2 .keys2)))
     (λ c κs.
     let p = c .before .before .before .before .before .before .before .before .before .before .before .before .before .before .before .before .before .before .before .before .before .before .before .before .before .before .before .before .before .before .before .before .before .before .before .before .before .before .before .before .before .before .pre in
     (omega (arith, p .0, c .before .before .before .before .before .before .before .before .before .before .before .before .before .before .before .before .before .before .before .before .before .before .before .before .before .before .before .before .before .load-package-self .kept .1 .1 .1 .1 .1 .1 .1 .1 .0, c .before .before .before .before .before .before .before .before .before .before .before .before .before .before .load-node-modules .kept .1 .1 .1 .1 .1 .1 .1 .1 .0), p .1))
@@ -56,4 +48,4 @@ load-package-spec =
     let p = c .before .before .before .before .before .before .before .before .before .before .before .before .before .before .before .before .before .before .before .before .before .before .before .before .before .before .before .before .before .before .before .before .before .before .before .before .before .before .before .before .before .before .before .before .before .before .before .before .before .before .before .pre in
     let a = c .before .before .before .before .before .before .before .before .before .before .before .before .before .before .before .before .before .before .before .before .before .before .before .before .before .before .before .before .before .before .before .before .before .before .before .before .before .before .load-package-self in
     let b = c .before .before .before .before .before .before .before .before .before .before .before .before .before .before .before .before .before .before .before .before .before .before .before .load-node-modules in
-    way-onward (a .result .way) _ (was-done (fits _ _ (p .0) (omega (arith, p .1))) (a .ensures)) (c .before .before .before .before .before .before .before .before .before .before .before .before .before .before .before .before .before .before .before .before .before .before .before .before .before .before .before .before .enum-told .given .1) (way-onward (b .result .way) _ (b .ensures) (c .before .before .before .before .before .before .before .before .before .before .before .before .before .enum-told3 .given .1) (c .before .before .before .before .before .before .before .before .load-climbing .ensures))))
+    way-onward (a .result .way) _ (was-done (fits _ _ (p .0) (omega (arith, p .1))) (a .ensures)) (c .before .before .before .before .before .before .before .before .before .before .before .before .before .before .before .before .before .before .before .before .before .before .before .before .before .before .before .before .enum-told .given .1) (way-onward (b .result .way) _ (was-done (fits _ _ (omega (arith, p .0, a .kept .1 .1 .1 .1 .1 .1 .1 .1 .0)) (omega (arith, p .1))) (b .ensures)) (c .before .before .before .before .before .before .before .before .before .before .before .before .before .enum-told3 .given .1) (c .before .before .before .before .before .before .before .before .load-climbing .ensures))))

@@ -1,11 +1,7 @@
-use Rattle.resolver.proofs.Modules.{lookup-ended, lookup-none}
+use Rattle.resolver.proofs.Lookups.{lookup-ended, lookup-none}
 use borrow.Author.Needs.{needs}
 use Rattle.resolver.proofs.walk.Statement.{statement}
 use Rattle.resolver.proofs.walk.Tie as tie
-use Rattle.resolver.proofs.walk.Reads as reads
-use Rattle.resolver.proofs.walk.Lts as lts
-use Rattle.consults.proofs.not_found.Reads as not-found-reads
-use Rattle.resolver.proofs.load_package.Reads as load-package-reads
 
 pub walk-spec : {M : Type 1} → statement M
 walk-spec =

@@ -1,15 +1,10 @@
 use mathlib.Core.Path.{sym, _∙_}
 use borrow.Author.Tests.{not-true, not-false}
 use Rattle.definition.specs.Walk.{bare}
-use Rattle.resolver.proofs.Modules.{file-skipped, file-tried}
+use Rattle.file_or_directory.proofs.Steps.{file-skipped, file-tried}
 use borrow.Author.Needs.{needs}
-use Rattle.resolver.proofs.load_file_first.Statement.{statement}
-use Rattle.resolver.proofs.load_file_first.Tie as tie
-use Rattle.resolver.proofs.load_file_first.Reads as reads
-use Rattle.resolver.proofs.load_file_first.Lts as lts
-use Rattle.files.proofs.load_as_file.Reads as load-as-file-reads
-use Rattle.consults.proofs.next.Reads as next-reads
-use Rattle.resolver.proofs.file_first.Reads as file-first-reads
+use Rattle.file_or_directory.proofs.load_file_first.Statement.{statement}
+use Rattle.file_or_directory.proofs.load_file_first.Tie as tie
 
 pub load-file-first-spec : {M : Type 1} → statement M
 unfolding bare

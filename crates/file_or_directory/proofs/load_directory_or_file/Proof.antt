@@ -1,14 +1,9 @@
 use Rattle.definition.specs.Walk.{bare}
 use Rattle.directory.proofs.Rooms.{was-done, enough}
-use Rattle.resolver.proofs.Modules.{a-directory, no-directory}
+use Rattle.file_or_directory.proofs.Steps.{a-directory, no-directory}
 use borrow.Author.Needs.{needs}
-use Rattle.resolver.proofs.load_directory_or_file.Statement.{statement}
-use Rattle.resolver.proofs.load_directory_or_file.Tie as tie
-use Rattle.resolver.proofs.load_directory_or_file.Reads as reads
-use Rattle.resolver.proofs.load_directory_or_file.Lts as lts
-use Rattle.directory.proofs.load_as_directory.Reads as load-as-directory-reads
-use Rattle.consults.proofs.consult.Reads as consult-reads
-use Rattle.files.proofs.load_as_file.Reads as load-as-file-reads
+use Rattle.file_or_directory.proofs.load_directory_or_file.Statement.{statement}
+use Rattle.file_or_directory.proofs.load_directory_or_file.Tie as tie
 
 pub load-directory-or-file-spec : {M : Type 1} → statement M
 unfolding bare
