@@ -26,8 +26,8 @@ use Rattle.consults.specs.declared.Way.the-variants.{Next, Stopped}
 use Rattle.consults.specs.Tape.{Tape, put, Done, done-ret, done-bind, done-stop}
 use Rattle.consults.specs.Meaning.{Sees, consultOf, numbers, stepOf}
 use Rattle.resolver.specs.Routines.{goingOf, fileFirst, directoryOrFile, inPackage, loadPackage}
-use Rattle.consults.proofs.Steps.{made-long, made-fits, by-state, is-dir, no-dir}
-use Rattle.consults.proofs.Climbs.{prefix, parent-take}
+use Rattle.questions.proofs.Questions.{made-long, made-fits, by-state, is-dir, no-dir}
+use Rattle.manifests.proofs.Climbs.{prefix, parent-take}
 use Rattle.consults.proofs.Ways.{bind-bind, way-passed, way-onward}
 use Rattle.consults.proofs.Way
 

@@ -53,7 +53,7 @@ fn without_directory(
             mark: m,
         };
     }
-    let asked = consults::consult(l, path::parent(dir), nums, text, m);
+    let asked = questions::consult(l, path::parent(dir), nums, text, m);
     let mark = asked.mark;
     Went {
         way: Way::Next,
@@ -119,7 +119,7 @@ fn load_directory_or_file(
     ensures { λ r. ⌜ Done (seenBy (settingsOf (now (s .entry))) (now (l .entry))) (directoryOrFile (settingsOf (now (s .entry))) (now (path .entry))) (tapeOf (now (result .entry)) (now (nums .entry)) (now (text .entry)) m) (tapeOf (now (result .exit)) (now (nums .exit)) (now (text .exit)) (r .mark)) (stepOf (r .way)) ⌝ }
 {
     let none: &[u8] = b"";
-    let asked = consults::consult(l, path, nums, text, m);
+    let asked = questions::consult(l, path, nums, text, m);
     if asked.state == 1 {
         return directory::load_as_directory(
             l,
@@ -215,7 +215,7 @@ fn in_package(
     requires { ⌜ (1024 ≤ length (now work)) × (length (now sub) ≤ 2048) ⌝ }
     ensures { λ r. ⌜ Done (seenBy (settingsOf (now (s .entry))) (now (l .entry))) (inPackage (settingsOf (now (s .entry))) (now (spec .entry)) (now (name .entry)) (now (sub .entry)) (now (modules .entry)) (now (dir .entry))) (tapeOf (now (result .entry)) (now (nums .entry)) (now (text .entry)) m) (tapeOf (now (result .exit)) (now (nums .exit)) (now (text .exit)) (r .mark)) (stepOf (r .way)) ⌝ }
 {
-    let asked = consults::consult(l, dir, nums, text, m);
+    let asked = questions::consult(l, dir, nums, text, m);
     let is_dir = asked.state == 1;
     let went = go_on(
         l,
@@ -298,7 +298,7 @@ fn in_directory(
     requires { ⌜ (1024 ≤ length (now work)) × (length (now sub) ≤ 2048) ⌝ }
     ensures { λ r. ⌜ Done (seenBy (settingsOf (now (s .entry))) (now (l .entry))) (inDirectory (settingsOf (now (s .entry))) (now (spec .entry)) (now (name .entry)) (now (sub .entry)) (now (dir .entry))) (tapeOf (now (result .entry)) (now (nums .entry)) (now (text .entry)) m) (tapeOf (now (result .exit)) (now (nums .exit)) (now (text .exit)) (r .mark)) (stepOf (r .way)) ⌝ }
 {
-    let asked = consults::consult(l, dir, nums, text, m);
+    let asked = questions::consult(l, dir, nums, text, m);
     let mark = asked.mark;
     if asked.state != 1 {
         return consults::next(mark);
@@ -310,7 +310,7 @@ fn in_directory(
         return consults::refused(42, mark);
     }
     let modules = path::first(&p.bytes, n);
-    let asked = consults::consult(l, modules, nums, text, mark);
+    let asked = questions::consult(l, modules, nums, text, mark);
     let mark = asked.mark;
     if asked.state != 1 {
         return consults::next(mark);
@@ -354,7 +354,7 @@ fn load_node_modules(
             break 'climb consults::next(mark);
         }
         let mut n = start.len();
-        let mut left = consults::depth(start) + 1;
+        let mut left = manifests::depth(start) + 1;
         while left > 0 {
             let dir = path::first(start, n);
             let out = in_directory(l, s, spec, name, sub, dir, result, nums, text, mark, work);

@@ -7,7 +7,7 @@ use Rattle.resolver.proofs.in_package.Statement.{statement}
 use Rattle.resolver.proofs.in_package.Tie as tie
 use Rattle.resolver.proofs.in_package.Reads as reads
 use Rattle.resolver.proofs.in_package.Lts as lts
-use Rattle.consults.proofs.consult.Reads as consult-reads
+use Rattle.questions.proofs.consult.Reads as consult-reads
 use Rattle.consults.proofs.next.Reads as next-reads
 use Rattle.resolver.proofs.go_on.Reads as go-on-reads
 use Rattle.resolver.proofs.load_as_file_or_directory.Reads as load-as-file-or-directory-reads

@@ -7,7 +7,7 @@ use Rattle.resolver.proofs.load_directory_or_file.Tie as tie
 use Rattle.resolver.proofs.load_directory_or_file.Reads as reads
 use Rattle.resolver.proofs.load_directory_or_file.Lts as lts
 use Rattle.directory.proofs.load_as_directory.Reads as load-as-directory-reads
-use Rattle.consults.proofs.consult.Reads as consult-reads
+use Rattle.questions.proofs.consult.Reads as consult-reads
 use Rattle.files.proofs.load_as_file.Reads as load-as-file-reads
 
 pub load-directory-or-file-spec : {M : Type 1} → statement M

@@ -1,6 +1,6 @@
 use mathlib.Core.Path.{refl, sym, _∙_}
 use borrow.Author.Tests.{not-true, not-false}
-use Rattle.consults.proofs.Steps.{done-isDir}
+use Rattle.questions.proofs.Questions.{done-isDir}
 use Rattle.resolver.proofs.Modules.{subpath-left, unscoped, scoped}
 use borrow.Author.Needs.{needs}
 use Rattle.resolver.proofs.without_directory.Statement.{statement}
@@ -8,7 +8,7 @@ use Rattle.resolver.proofs.without_directory.Tie as tie
 use Rattle.resolver.proofs.without_directory.Reads as reads
 use Rattle.resolver.proofs.without_directory.Lts as lts
 use Rattle.path.proofs.parent.Reads as parent-reads
-use Rattle.consults.proofs.consult.Reads as consult-reads
+use Rattle.questions.proofs.consult.Reads as consult-reads
 use Rattle.text.proofs.starts_with.Reads as starts-with-reads
 
 pub without-directory-spec : {M : Type 1} → statement M
