@@ -1,4 +1,3 @@
 pub mod Laws
 pub mod Steps
-pub mod Climbs
 pub mod Ways

@@ -1,20 +1,13 @@
-// Questions to a lent listing, each written to the lent list as it is asked, the nearest manifest, and the end of a lookup.
-use path::PathBuf;
+// The list of consults and the end of a lookup, as they are written to lent memory while the lookup runs.
 ghost use mathlib.Core.Path.{_≡_};
 ghost use mathlib.Core.List.{List, [], _++_};
 ghost use Prim.Native.Nat.{ℕ, _+_, min};
 ghost use lib.ListN.{set};
-ghost use Rattle.definition.specs.Text.{text, overwrite};
-ghost use Rattle.definition.specs.Path.{depth, dirs};
-ghost use Rattle.definition.specs.Ask.{Listing, stop, end, asked, opened};
-ghost use Rattle.definition.specs.Listing.{entryAt};
-ghost use Rattle.definition.specs.Settings.{Settings};
-ghost use Rattle.definition.specs.Called.{seenBy};
-ghost use Rattle.definition.specs.Walk.{notFound, tryFile};
-ghost use Rattle.listing.specs.Meaning.{seen};
-ghost use Rattle.path.specs.Meaning.{pathAt};
+ghost use Rattle.definition.specs.Text.{overwrite};
+ghost use Rattle.definition.specs.Ask.{Listing, stop, end};
+ghost use Rattle.definition.specs.Walk.{notFound};
 ghost use Rattle.consults.specs.Tape.{most, packed, put, Done};
-ghost use Rattle.consults.specs.Meaning.{tapeOf, consultOf, stepOf, place, numbers, Sees, tryPath, manifestFound, manifestIn, readOf, seek, soughtOf};
+ghost use Rattle.consults.specs.Meaning.{tapeOf, consultOf, numbers, Sees};
 
 // How a lookup ended: the number of document 01, and the lengths of its texts, which stand in the result text.
 pub struct Ending {
@@ -38,12 +31,6 @@ pub struct Mark {
 
 pub struct Out {
     pub way: Way,
-    pub mark: Mark,
-}
-
-// A path's state, and the list with the question in it.
-pub struct Asked {
-    pub state: u8,
     pub mark: Mark,
 }
 
@@ -71,8 +58,9 @@ fn note_number(nums: &mut [u32], count: usize, n: usize, state: u8)
         nums[count + 2] = ((n % 65536) as u32) + 65536 * (state as u32);
     }
 }
+
 // One consult more in the list.
-fn note(path: &[u8], state: u8, nums: &mut [u32], text: &mut [u8], m: Mark) -> Mark
+pub fn note(path: &[u8], state: u8, nums: &mut [u32], text: &mut [u8], m: Mark) -> Mark
     ensures { λ r. ⌜ ((result : List ℕ) → tapeOf result (now (nums .exit)) (now (text .exit)) r ≡ put (tapeOf result (now (nums .entry)) (now (text .entry)) m) (consultOf (now (path .entry)) state)) ⌝ }
 {
     note_number(nums, m.count, path.len(), state);
@@ -80,29 +68,6 @@ fn note(path: &[u8], state: u8, nums: &mut [u32], text: &mut [u8], m: Mark) -> M
     Mark {
         count: more(m.count, 1),
         size: more(m.size, path.len()),
-    }
-}
-
-// The state of a path, as 01 numbers it: one consult.
-pub fn consult(l: &[u8], path: &[u8], nums: &mut [u32], text: &mut [u8], m: Mark) -> Asked
-    ensures state { λ r. ⌜ r .state ≡ asked (entryAt (now (l .entry)) (now (path .entry))) ⌝ }
-    ensures list { λ r. ⌜ ((result : List ℕ) → tapeOf result (now (nums .exit)) (now (text .exit)) (r .mark) ≡ put (tapeOf result (now (nums .entry)) (now (text .entry)) m) (consultOf (now (path .entry)) (r .state))) ⌝ }
-{
-    let found = listing::search(l, path);
-    let state = state_of(found);
-    Asked {
-        state,
-        mark: note(path, state, nums, text, m),
-    }
-}
-
-fn state_of(found: listing::Found) -> u8
-    ensures { λ r. ⌜ ((l : List ℕ) → r ≡ asked (seen l found)) ⌝ }
-{
-    match found {
-        listing::Found::Absent => 0,
-        listing::Found::Directory => 1,
-        listing::Found::File { start: _, end: _ } => 2,
     }
 }
 
@@ -134,30 +99,6 @@ pub fn finish(number: u8, a: &[u8], b: &[u8], c: &[u8], result: &mut [u8]) -> En
         first: a.len(),
         second: b.len(),
         third: c.len(),
-    }
-}
-
-// LOAD_AS_FILE, step 1: a file is found.
-pub fn try_file<'a>(
-    l: &[u8],
-    path: &[u8],
-    query: &'a [u8],
-    fragment: &'a [u8],
-    result: &mut [u8],
-    nums: &mut [u32],
-    text: &mut [u8],
-    m: Mark,
-) -> Out
-    ensures { λ r. ⌜ ((G : Settings) → Done (seenBy G (now (l .entry))) (tryFile G (place (now (path .entry)) (now (query .entry)) (now (fragment .entry)))) (tapeOf (now (result .entry)) (now (nums .entry)) (now (text .entry)) m) (tapeOf (now (result .exit)) (now (nums .exit)) (now (text .exit)) (r .mark)) (stepOf (r .way))) ⌝ }
-{
-    let asked = consult(l, path, nums, text, m);
-    let mark = asked.mark;
-    if asked.state != 2 {
-        return next(mark);
-    }
-    Out {
-        way: Way::Stopped(finish(0, path, query, fragment, result)),
-        mark,
     }
 }
 
@@ -198,164 +139,4 @@ pub fn not_found(spec: &[u8], result: &mut [u8]) -> Ending
     ensures { λ r. ⌜ ((L : Listing Sees) (numbers text : List ℕ) (m : Mark) → Done {A = ⊥} L (end (notFound (now (spec .entry)))) (tapeOf (now (result .entry)) numbers text m) (tapeOf (now (result .exit)) numbers text m) (stop r)) ⌝ }
 {
     finish(1, spec, b"", b"", result)
-}
-
-// A path of n bytes that was built is tried as a file; an over-long one is refused as 42.
-pub fn try_path<'a>(
-    l: &[u8],
-    bytes: &[u8],
-    n: usize,
-    query: &'a [u8],
-    fragment: &'a [u8],
-    result: &mut [u8],
-    nums: &mut [u32],
-    text: &mut [u8],
-    m: Mark,
-) -> Out
-    ensures { λ r. ⌜ ((G : Settings) → Done (seenBy G (now (l .entry))) (tryPath G (pathAt (now (bytes .entry)) n) (now (query .entry)) (now (fragment .entry))) (tapeOf (now (result .entry)) (now (nums .entry)) (now (text .entry)) m) (tapeOf (now (result .exit)) (now (nums .exit)) (now (text .exit)) (r .mark)) (stepOf (r .way))) ⌝ }
-{
-    if n > 2048 {
-        return refused(42, m);
-    }
-    try_file(
-        l,
-        path::first(bytes, n),
-        query,
-        fragment,
-        result,
-        nums,
-        text,
-        m,
-    )
-}
-
-// What a directory holds as package.json: no file, or a file, whose contents lie there.
-pub enum Manifest {
-    Missing,
-    File { start: usize, end: usize },
-    OverLong,
-}
-
-// With the list in which the question stands.
-pub struct Read {
-    pub manifest: Manifest,
-    pub mark: Mark,
-}
-
-fn manifest_of(found: listing::Found) -> Manifest
-    ensures { λ r. ⌜ r ≡ manifestFound found ⌝ }
-{
-    match found {
-        listing::Found::Absent => Manifest::Missing,
-        listing::Found::Directory => Manifest::Missing,
-        listing::Found::File { start, end } => Manifest::File { start, end },
-    }
-}
-
-// The state of a manifest: its contents are read.
-fn opened_state(found: listing::Found) -> u8
-    ensures { λ r. ⌜ ((l : List ℕ) → r ≡ opened (seen l found)) ⌝ }
-{
-    match found {
-        listing::Found::Absent => 0,
-        listing::Found::Directory => 1,
-        listing::Found::File { start: _, end: _ } => 3,
-    }
-}
-
-// package.json in one directory: one consult, unless its path is over-long. The path is built in the bytes that are lent.
-fn read_manifest(
-    l: &[u8],
-    dir: &[u8],
-    bytes: &mut [u8; 2048],
-    nums: &mut [u32],
-    text: &mut [u8],
-    m: Mark,
-) -> Read
-    ensures { λ r. ⌜ ((G : Settings) (result : List ℕ) → Done (seenBy G (now (l .entry))) (manifestIn (now (dir .entry))) (tapeOf result (now (nums .entry)) (now (text .entry)) m) (tapeOf result (now (nums .exit)) (now (text .exit)) (r .mark)) (readOf G (now (l .entry)) (r .manifest))) ⌝ }
-{
-    let n = path::manifest_path(dir, bytes);
-    if n > 2048 {
-        return Read {
-            manifest: Manifest::OverLong,
-            mark: m,
-        };
-    }
-    let path = path::first(bytes, n);
-    let found = listing::search(l, path);
-    Read {
-        manifest: manifest_of(found),
-        mark: note(path, opened_state(found), nums, text, m),
-    }
-}
-
-// The nearest manifest: the length of its directory within the path, and where its contents lie.
-pub enum Near {
-    Nowhere,
-    At {
-        dir: usize,
-        start: usize,
-        end: usize,
-    },
-    TooLong,
-}
-
-pub struct Nearest {
-    pub near: Near,
-    pub mark: Mark,
-}
-
-// package.json in the directory, then in each above it: the first that is a file.
-pub fn find_package_json(
-    l: &[u8],
-    dir: &[u8],
-    nums: &mut [u32],
-    text: &mut [u8],
-    m: Mark,
-) -> Nearest
-    ensures { λ r. ⌜ ((G : Settings) (result : List ℕ) → Done (seenBy G (now (l .entry))) (seek (dirs (now (dir .entry)))) (tapeOf result (now (nums .entry)) (now (text .entry)) m) (tapeOf result (now (nums .exit)) (now (text .exit)) (r .mark)) (soughtOf G (now (l .entry)) (now (dir .entry)) (r .near))) ⌝ }
-{
-    let mut p = PathBuf::new();
-    let mut mark = m;
-    let mut n = dir.len();
-    let mut above = depth(dir);
-    loop {
-        let d = path::first(dir, n);
-        let read = read_manifest(l, d, &mut p.bytes, nums, text, mark);
-        mark = read.mark;
-        let manifest = read.manifest;
-        match manifest {
-            Manifest::Missing => {}
-            Manifest::File { start, end } => {
-                return Nearest {
-                    near: Near::At { dir: n, start, end },
-                    mark,
-                };
-            }
-            Manifest::OverLong => {
-                return Nearest {
-                    near: Near::TooLong,
-                    mark,
-                };
-            }
-        }
-        if above == 0 {
-            return Nearest {
-                near: Near::Nowhere,
-                mark,
-            };
-        }
-        n = path::parent(d).len();
-        above -= 1;
-    }
-}
-
-// How many directories are above a path.
-pub fn depth(p: &[u8]) -> usize
-    ensures { λ r. ⌜ r ≡ depth (now (p .entry)) ⌝ }
-{
-    if text::equal(p, b"/") {
-        return 0;
-    }
-    text::count(p, b'/')
 }

@@ -37,11 +37,13 @@ use Rattle.consults.specs.declared.Way.the-variants.{Next, Stopped}
 use Rattle.directory.specs.declared.Package.{Package}
 use Rattle.directory.specs.declared.Package.the-variants.{Nowhere, At}
 use Rattle.consults.specs.Tape.{Tape, Done, endingOf, numbered, done-ret, done-bind, done-stop}
-use Rattle.consults.specs.Meaning.{tapeOf, place, stepOf, numbers, Sees, manifestIn, Sought, orFurther, seek}
+use Rattle.consults.specs.Meaning.{tapeOf, place, stepOf, numbers, Sees}
+use Rattle.manifests.specs.Meaning.{manifestIn, Sought, orFurther, seek}
 use Rattle.directory.specs.Routines.{Finishes, FinishesIn, judged, jsonOf, scopeOf, ownOf, Fits, toldIn, mainField, byManifest}
 use Rattle.consults.proofs.Way as ways
-use Rattle.consults.proofs.Steps.{done-finish, done-refuse, ends-failed, made-fits, made-long}
-use Rattle.consults.proofs.Climbs.{manifest-built}
+use Rattle.consults.proofs.Steps.{done-finish, done-refuse, ends-failed}
+use Rattle.questions.proofs.Questions.{made-fits, made-long}
+use Rattle.manifests.proofs.Climbs.{manifest-built}
 
 -- the end that names a manifest: its path was built, or it is over the limit
 module _ (k : ℕ) (p : Built) (bytes : Text) (n : ℕ) (e : pathAt bytes n ≡ p) (r : Ending) (before : Text) where

@@ -21,7 +21,8 @@ use Rattle.consults.specs.declared.Way.{Way}
 use Rattle.consults.specs.declared.Way.the-variants.{Next, Stopped}
 use Rattle.directory.specs.declared.Package.{Package}
 use Rattle.directory.specs.declared.Package.the-variants.{Nowhere, At}
-use Rattle.consults.specs.Meaning.{numbers, Sought}
+use Rattle.consults.specs.Meaning.{numbers}
+use Rattle.manifests.specs.Meaning.{Sought}
 
 -- an ending with a number and three texts, which were written to the result text
 pub record Finishes (n : ℕ) (a b c : Text) (r : Ending) (before after : Text) : Type 0 where

@@ -1,9 +1,9 @@
 // A package's manifest, read and judged, and LOAD_AS_DIRECTORY of lib.rs, over a lent listing.
 use consults::Ending;
 use consults::Mark;
-use consults::Near;
 use consults::Out;
 use consults::Way;
+use manifests::Near;
 use package_json::Cursor;
 use package_json::TextAt;
 use path::PathBuf;
@@ -117,7 +117,7 @@ pub fn scope(
     ensures done { λ r. ⌜ ((G : Settings) → Done (seenBy G (now (l .entry))) (nearest G (dirs (now (dir .entry)))) (tapeOf (now (result .entry)) (now (nums .entry)) (now (text .entry)) m) (tapeOf (now (result .exit)) (now (nums .exit)) (now (text .exit)) (r .mark)) (scopeOf G (now (l .entry)) (now (dir .entry)) (r .way) (r .package))) ⌝ }
     ensures held { λ r. ⌜ Held (now (l .entry)) (r .package) ⌝ }
 {
-    let nearest = consults::find_package_json(l, dir, nums, text, m);
+    let nearest = manifests::find_package_json(l, dir, nums, text, m);
     let mark = nearest.mark;
     let near = nearest.near;
     match near {
@@ -407,7 +407,7 @@ pub fn load_if_directory<'a>(
     if work.len() < 1024 {
         return consults::refused(25, m);
     }
-    let asked = consults::consult(l, path, nums, text, m);
+    let asked = questions::consult(l, path, nums, text, m);
     let mark = asked.mark;
     if asked.state != 1 {
         return consults::next(mark);

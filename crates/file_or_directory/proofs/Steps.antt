@@ -19,7 +19,7 @@ use Rattle.consults.specs.declared.Way.the-variants.{Next}
 use Rattle.consults.specs.Tape.{Tape, put, Done, done-ret}
 use Rattle.consults.specs.Meaning.{Sees, consultOf, numbers, stepOf}
 use Rattle.file_or_directory.specs.Routines.{fileFirst, directoryOrFile}
-use Rattle.consults.proofs.Steps.{made-long, made-fits, is-dir, no-dir}
+use Rattle.questions.proofs.Questions.{made-long, made-fits, is-dir, no-dir}
 use Rattle.consults.proofs.Ways.{way-passed, way-onward}
 use Rattle.consults.proofs.Way
 

@@ -31,7 +31,7 @@ fn load_directory_or_file(
     ensures { λ r. ⌜ Done (seenBy (settingsOf (now (s .entry))) (now (l .entry))) (directoryOrFile (settingsOf (now (s .entry))) (now (path .entry))) (tapeOf (now (result .entry)) (now (nums .entry)) (now (text .entry)) m) (tapeOf (now (result .exit)) (now (nums .exit)) (now (text .exit)) (r .mark)) (stepOf (r .way)) ⌝ }
 {
     let none: &[u8] = b"";
-    let asked = consults::consult(l, path, nums, text, m);
+    let asked = questions::consult(l, path, nums, text, m);
     if asked.state == 1 {
         return directory::load_as_directory(
             l,

@@ -18,7 +18,8 @@ use Rattle.definition.specs.Walk.{Look, forEach, at, tryFile, tryExtension, LOA
 use Rattle.consults.specs.declared.Ending.{Ending}
 use Rattle.consults.specs.Tape.{Tape, Done, done-bind, done-stop}
 use Rattle.consults.specs.Loop.{Left, left-start, left-again, left-stop, left-end}
-use Rattle.consults.specs.Meaning.{Sees, place, tryPath}
+use Rattle.consults.specs.Meaning.{Sees, place}
+use Rattle.questions.specs.Meaning.{tryPath}
 
 -- a longer text is over the limit where the shorter is
 limited-longer : (p q : Text) → length p ≤ length q → andPath (limited p) (λ _. limited q) ≡ limited q

@@ -12,7 +12,8 @@ ghost use Rattle.definition.specs.Settings.{Settings, textsOf, settingsOf};
 ghost use Rattle.definition.specs.Called.{seenBy};
 ghost use Rattle.definition.specs.Walk.{tryExtension, LOAD-AS-FILE, tryIndex, LOAD-INDEX};
 ghost use Rattle.consults.specs.Tape.{Done};
-ghost use Rattle.consults.specs.Meaning.{tapeOf, stepOf, place, loadMainFile};
+ghost use Rattle.consults.specs.Meaning.{tapeOf, stepOf, place};
+ghost use Rattle.files.specs.Meaning.{loadMainFile};
 
 // LOAD_AS_FILE, step 2: the path with the i-th extension behind it.
 fn try_extension<'a>(
@@ -33,7 +34,7 @@ fn try_extension<'a>(
     let mut p = PathBuf::new();
     p.len = path::add_extension(path, ext, &mut p.bytes);
     let n = p.len;
-    consults::try_path(l, &p.bytes, n, query, fragment, result, nums, text, m)
+    questions::try_path(l, &p.bytes, n, query, fragment, result, nums, text, m)
 }
 
 // LOAD_AS_FILE(X)
@@ -50,7 +51,7 @@ pub fn load_as_file<'a>(
 ) -> Out
     ensures { λ r. ⌜ Done (seenBy (settingsOf (now (s .entry))) (now (l .entry))) (LOAD-AS-FILE (settingsOf (now (s .entry))) (place (now (path .entry)) (now (query .entry)) (now (fragment .entry)))) (tapeOf (now (result .entry)) (now (nums .entry)) (now (text .entry)) m) (tapeOf (now (result .exit)) (now (nums .exit)) (now (text .exit)) (r .mark)) (stepOf (r .way)) ⌝ }
 {
-    let first = consults::try_file(l, path, query, fragment, result, nums, text, m);
+    let first = questions::try_file(l, path, query, fragment, result, nums, text, m);
     let way = first.way;
     let Way::Next = way else {
         return first;
@@ -90,7 +91,7 @@ fn try_index<'a>(
     let mut p = PathBuf::new();
     p.len = path::add_name_and_extension(path, file, ext, &mut p.bytes);
     let n = p.len;
-    consults::try_path(l, &p.bytes, n, query, fragment, result, nums, text, m)
+    questions::try_path(l, &p.bytes, n, query, fragment, result, nums, text, m)
 }
 
 // LOAD_INDEX, one main file with each extension.

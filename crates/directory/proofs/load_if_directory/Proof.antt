@@ -1,7 +1,7 @@
 use Rattle.definition.specs.Walk.{when}
 use Rattle.directory.specs.Routines.{ifDirectory}
 use Rattle.consults.specs.Tape.{done-ret}
-use Rattle.consults.proofs.Steps.{is-dir, no-dir}
+use Rattle.questions.proofs.Questions.{is-dir, no-dir}
 use Rattle.directory.proofs.Rooms.{was-done, is-done, is-refused, enough, too-little}
 use borrow.Author.Needs.{needs}
 use Rattle.directory.proofs.load_if_directory.Statement.{statement}
@@ -10,7 +10,7 @@ use Rattle.directory.proofs.load_if_directory.Reads as reads
 use Rattle.directory.proofs.load_if_directory.Lts as lts
 use Rattle.consults.proofs.next.Reads as next-reads
 use Rattle.directory.proofs.load_as_directory.Reads as load-as-directory-reads
-use Rattle.consults.proofs.consult.Reads as consult-reads
+use Rattle.questions.proofs.consult.Reads as consult-reads
 use Rattle.consults.proofs.refused.Reads as refused-reads
 
 pub load-if-directory-spec : {M : Type 1} → statement M

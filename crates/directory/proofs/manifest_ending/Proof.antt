@@ -1,6 +1,6 @@
 use mathlib.Core.Path.{_∙_, ap}
 use Rattle.definition.specs.Path.{andPath, limited, manifestOf}
-use Rattle.consults.proofs.Climbs.{manifest-built}
+use Rattle.manifests.proofs.Climbs.{manifest-built}
 use Rattle.directory.proofs.Manifests.{ending-long, ending-fits}
 use borrow.Author.Needs.{needs}
 use Rattle.directory.proofs.manifest_ending.Statement.{statement}

@@ -7,7 +7,7 @@ use Rattle.directory.proofs.scope.Statement.{statement}
 use Rattle.directory.proofs.scope.Tie as tie
 use Rattle.directory.proofs.scope.Reads as reads
 use Rattle.directory.proofs.scope.Lts as lts
-use Rattle.consults.proofs.find_package_json.Reads as find-package-json-reads
+use Rattle.manifests.proofs.find_package_json.Reads as find-package-json-reads
 use Rattle.directory.proofs.judge.Reads as judge-reads
 use Rattle.consults.proofs.refuse.Reads as refuse-reads
 

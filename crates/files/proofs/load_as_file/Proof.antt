@@ -18,7 +18,7 @@ use Rattle.files.proofs.load_as_file.Reads as reads
 use Rattle.files.proofs.load_as_file.Lts as lts
 use Rattle.consults.proofs.next.Reads as next-reads
 use Rattle.files.proofs.try_extension.Reads as try-extension-reads
-use Rattle.consults.proofs.try_file.Reads as try-file-reads
+use Rattle.questions.proofs.try_file.Reads as try-file-reads
 use Rattle.settings.proofs.count.Reads as count-reads
 
 abbrev Inv-loop : tie.InvT-loop

@@ -8,7 +8,8 @@ use Rattle.definition.specs.Settings.{textsOf, settingsOf}
 use Rattle.definition.specs.Called.{seenBy}
 use Rattle.definition.specs.Walk.{tryIndex}
 use Rattle.consults.specs.Loop.{Left, left-start, left-again, left-stop, left-end}
-use Rattle.consults.specs.Meaning.{tapeOf, place, loadMainFile}
+use Rattle.consults.specs.Meaning.{tapeOf, place}
+use Rattle.files.specs.Meaning.{loadMainFile}
 use Rattle.files.proofs.Files.{left-texts, none-left}
 use Rattle.consults.proofs.Ways.{ended, onward}
 use borrow.Author.Needs.{needs}

@@ -1,13 +1,8 @@
 use mathlib.Core.Path.{_∙_, ap}
 use Rattle.definition.specs.Ask.{asked}
 use borrow.Author.Needs.{needs}
-use Rattle.consults.proofs.consult.Statement.{statement}
-use Rattle.consults.proofs.consult.Tie as tie
-use Rattle.consults.proofs.consult.Reads as reads
-use Rattle.consults.proofs.consult.Lts as lts
-use Rattle.listing.proofs.search.Reads as search-reads
-use Rattle.consults.proofs.note.Reads as note-reads
-use Rattle.consults.proofs.state_of.Reads as state-of-reads
+use Rattle.questions.proofs.consult.Statement.{statement}
+use Rattle.questions.proofs.consult.Tie as tie
 
 pub consult-spec : {M : Type 1} → statement M
 consult-spec =

@@ -1,7 +1,7 @@
-use Rattle.consults.proofs.Climbs.{done-opened, manifest-long, manifest-fits}
+use Rattle.manifests.proofs.Climbs.{done-opened, manifest-long, manifest-fits}
 use borrow.Author.Needs.{needs}
-use Rattle.consults.proofs.read_manifest.Statement.{statement}
-use Rattle.consults.proofs.read_manifest.Tie as tie
+use Rattle.manifests.proofs.read_manifest.Statement.{statement}
+use Rattle.manifests.proofs.read_manifest.Tie as tie
 
 pub read-manifest-spec : {M : Type 1} → statement M
 read-manifest-spec =

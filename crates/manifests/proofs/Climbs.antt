@@ -1,19 +1,19 @@
 -- The nearest manifest: what the code reads as what the definition reads. Assumes nothing.
 use mathlib.Core.Path.{_≡_, refl, sym, _∙_, ap}
 use mathlib.Core.Bool.{Bool, true, false, _||_, false≢true}
-use mathlib.Core.List.{List, [], _∷_, _++_}
+use mathlib.Core.List.{[], _∷_, _++_}
 use mathlib.Core.Option.{Option, none, some}
 use Prim.Native.Nat.{ℕ, zero, suc, _-_, _≤_, _<_}
 use native.Mathlib.Omega.{arith}
-use borrow.Author.Tests.{le-leb, lt-leb, leb-true, leb-false, eqb-true}
+use borrow.Author.Tests.{le-leb, lt-leb, leb-false, eqb-true}
 use lib.Dec.{leb, eqb}
 use lib.ListN.{length, take, length-append, length-take}
 use lib.Seq.{take-all, take-take}
 use Rattle.definition.specs.Text.{Text, text, if_then_else_, slash, equal, contains, beforeLast, endsWith}
-use Rattle.definition.specs.Path.{Built, built, tooLong, andPath, limited, push, parent, orRoot, depth, climb, dirs, manifestOf}
+use Rattle.definition.specs.Path.{built, tooLong, andPath, limited, push, parent, orRoot, depth, climb, dirs, manifestOf}
 use Rattle.definition.specs.Listing.{Entry, noEntry, directoryEntry, fileEntry, entryAt}
 use Rattle.definition.specs.Settings.{Settings}
-use Rattle.definition.specs.Ask.{Listing, Step, go, stop, Ask, ret, end, read, contentsOf, opened, seen as seenThrough, viewed, _>>=_}
+use Rattle.definition.specs.Ask.{Listing, Step, go, stop, ret, read, contentsOf, opened, seen as seenThrough, viewed}
 use Rattle.definition.specs.Manifest.{view, pathTooLong, refusalNumber}
 use Rattle.definition.specs.Called.{seenBy}
 use Rattle.definition.specs.Walk.{made}
@@ -21,10 +21,11 @@ use Rattle.listing.specs.declared.Found.{Found}
 use Rattle.listing.specs.declared.Found.the-variants.{Absent, Directory, File}
 use Rattle.listing.specs.Meaning.{seen}
 use Rattle.path.specs.Meaning.{pathAt}
 use Rattle.consults.specs.declared.Ending.{Ending}
 use Rattle.consults.specs.Tape.{Tape, put, Done, done-ret, done-read, done-bind, done-stop}
-use Rattle.consults.specs.Meaning.{consultOf, numbers, manifestFound, Sees, manifestIn, readOf, Sought, orFurther, seek}
+use Rattle.consults.specs.Meaning.{consultOf, numbers, Sees}
 use Rattle.consults.proofs.Steps.{done-refuse}
+use Rattle.manifests.specs.Meaning.{manifestFound, manifestIn, readOf, Sought, orFurther, seek}
 
 -- a manifest's path is at least as long as its directory's
 push-longer : (p c : Text) → length p ≤ length (push p c)

@@ -1,9 +1,7 @@
 use Rattle.definition.specs.Ask.{opened}
 use borrow.Author.Needs.{needs}
-use Rattle.consults.proofs.opened_state.Statement.{statement}
-use Rattle.consults.proofs.opened_state.Tie as tie
-use Rattle.consults.proofs.opened_state.Reads as reads
-use Rattle.consults.proofs.opened_state.Lts as lts
+use Rattle.manifests.proofs.opened_state.Statement.{statement}
+use Rattle.manifests.proofs.opened_state.Tie as tie
 
 pub opened-state-spec : {M : Type 1} → statement M
 unfolding opened

@@ -1,12 +1,8 @@
-use mathlib.Core.Path.{_∙_, sym, refl}
+use mathlib.Core.Path.{_∙_, sym}
 use Rattle.definition.specs.Path.{depth}
 use borrow.Author.Needs.{needs}
-use Rattle.consults.proofs.depth.Statement.{statement}
-use Rattle.consults.proofs.depth.Tie as tie
-use Rattle.consults.proofs.depth.Reads as reads
-use Rattle.consults.proofs.depth.Lts as lts
-use Rattle.text.proofs.count.Reads as count-reads
-use Rattle.text.proofs.equal.Reads as equal-reads
+use Rattle.manifests.proofs.depth.Statement.{statement}
+use Rattle.manifests.proofs.depth.Tie as tie
 
 pub depth-spec : {M : Type 1} → statement M
 unfolding depth

@@ -1,10 +1,7 @@
-use mathlib.Core.Path.{refl}
 use Rattle.definition.specs.Ask.{asked, number, stateOf}
 use borrow.Author.Needs.{needs}
-use Rattle.consults.proofs.state_of.Statement.{statement}
-use Rattle.consults.proofs.state_of.Tie as tie
-use Rattle.consults.proofs.state_of.Reads as reads
-use Rattle.consults.proofs.state_of.Lts as lts
+use Rattle.questions.proofs.state_of.Statement.{statement}
+use Rattle.questions.proofs.state_of.Tie as tie
 
 pub state-of-spec : {M : Type 1} → statement M
 unfolding asked number stateOf

@@ -1,8 +1,6 @@
 use borrow.Author.Needs.{needs}
-use Rattle.consults.proofs.manifest_of.Statement.{statement}
-use Rattle.consults.proofs.manifest_of.Tie as tie
-use Rattle.consults.proofs.manifest_of.Reads as reads
-use Rattle.consults.proofs.manifest_of.Lts as lts
+use Rattle.manifests.proofs.manifest_of.Statement.{statement}
+use Rattle.manifests.proofs.manifest_of.Tie as tie
 
 pub manifest-of-spec : {M : Type 1} → statement M
 manifest-of-spec =

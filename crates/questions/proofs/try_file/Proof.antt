@@ -1,13 +1,8 @@
-use mathlib.Core.Path.{refl}
-use Rattle.consults.proofs.Steps.{done-isFile, ends-found, done-finish, try-missing, try-found}
+use Rattle.consults.proofs.Steps.{ends-found, done-finish}
+use Rattle.questions.proofs.Questions.{done-isFile, try-missing, try-found}
 use borrow.Author.Needs.{needs}
-use Rattle.consults.proofs.try_file.Statement.{statement}
-use Rattle.consults.proofs.try_file.Tie as tie
-use Rattle.consults.proofs.try_file.Reads as reads
-use Rattle.consults.proofs.try_file.Lts as lts
-use Rattle.consults.proofs.next.Reads as next-reads
-use Rattle.consults.proofs.consult.Reads as consult-reads
-use Rattle.consults.proofs.finish.Reads as finish-reads
+use Rattle.questions.proofs.try_file.Statement.{statement}
+use Rattle.questions.proofs.try_file.Tie as tie
 
 pub try-file-spec : {M : Type 1} → statement M
 try-file-spec =

@@ -7,11 +7,11 @@ use lib.ListN.{length}
 use Rattle.definition.specs.Path.{parent}
 use Rattle.definition.specs.Settings.{Settings}
 use Rattle.definition.specs.Called.{seenBy}
 use Rattle.consults.specs.Meaning.{tapeOf}
-use Rattle.consults.proofs.Climbs.{Climbing, climbing-start, climbing-more, climbing-none, climbing-found, climbing-stop}
+use Rattle.manifests.proofs.Climbs.{Climbing, climbing-start, climbing-more, climbing-none, climbing-found, climbing-stop}
 use borrow.Author.Needs.{needs}
-use Rattle.consults.proofs.find_package_json.Statement.{statement}
-use Rattle.consults.proofs.find_package_json.Tie as tie
+use Rattle.manifests.proofs.find_package_json.Statement.{statement}
+use Rattle.manifests.proofs.find_package_json.Tie as tie
 
 abbrev Inv-loop : tie.InvT-loop
 Inv-loop l dir nums₀ text₀ p₀ mark₀ n₀ above₀ nums text p mark n above =

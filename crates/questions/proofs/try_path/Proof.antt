@@ -1,7 +1,7 @@
-use Rattle.consults.proofs.Steps.{path-long, path-fits}
+use Rattle.questions.proofs.Questions.{path-long, path-fits}
 use borrow.Author.Needs.{needs}
-use Rattle.consults.proofs.try_path.Statement.{statement}
-use Rattle.consults.proofs.try_path.Tie as tie
+use Rattle.questions.proofs.try_path.Statement.{statement}
+use Rattle.questions.proofs.try_path.Tie as tie
 
 pub try-path-spec : {M : Type 1} → statement M
 try-path-spec =
