@@ -108,7 +108,7 @@ fn is_name(c: &[u8], plain: bool) -> bool
     if text::contains(c, 0) {
         return false;
     }
-    text::is_utf8(c)
+    utf8::is_utf8(c)
 }
 
 // ASCII, and not 0.

@@ -112,7 +112,7 @@ pub fn check(s: &[u8]) -> bool
     if text::contains(s, 0) {
         return false;
     }
-    text::is_utf8(s)
+    utf8::is_utf8(s)
 }
 
 // Whether a second walk may be due: the specifier goes up twice in a row.

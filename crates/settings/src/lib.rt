@@ -127,7 +127,7 @@ fn text_passes(t: &[u8], extension: bool) -> bool
     if t.len() > 32 {
         return false;
     }
-    if !text::is_utf8(t) {
+    if !utf8::is_utf8(t) {
         return false;
     }
     if text::contains(t, b'/') {

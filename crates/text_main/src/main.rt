@@ -1,4 +1,4 @@
-// Runs texts with known answers through the functions of `text`, and prints for each group how many are as expected.
+// Runs texts with known answers through the functions of `text` and `utf8`, and prints for each group how many are as expected.
 // A table is a byte string of rows. A driver counts its rows up to the first that is not as expected.
 use libc::STDOUT_FILENO;
 
@@ -31,7 +31,7 @@ fn utf8_rows(rows: &[u8], good: bool) -> usize {
             return n;
         }
         let end = start + size;
-        if text::is_utf8(&rows[start..end]) != good {
+        if utf8::is_utf8(&rows[start..end]) != good {
             return n;
         }
         n += 1;
@@ -44,7 +44,7 @@ fn utf8_rows(rows: &[u8], good: bool) -> usize {
 fn cuts_refused(t: &[u8]) -> bool {
     let mut n: usize = 1;
     while n < t.len() {
-        if text::is_utf8(&t[0..n]) {
+        if utf8::is_utf8(&t[0..n]) {
             return false;
         }
         n += 1;
@@ -77,7 +77,7 @@ fn single_bytes() -> usize {
     let mut n: usize = 0;
     while n < 256 {
         let s = [n as u8; 1];
-        if text::is_utf8(&s) != (n < 128) {
+        if utf8::is_utf8(&s) != (n < 128) {
             return n;
         }
         n += 1;

@@ -6,9 +6,9 @@ use lib.ListN.{length, drop, drop-of-length-le}
 use borrow.Author.Needs.{needs}
 use Rattle.definition.specs.Text.{due, isUtf8From, isUtf8}
 use Rattle.laws.specs.TextSteps.{utf8-ascii, utf8-step, utf8-end, utf8-bad}
-use Rattle.text.specs.Meaning.{meant}
-use Rattle.text.proofs.is_utf8.Statement.{statement}
-use Rattle.text.proofs.is_utf8.Tie as tie
+use Rattle.utf8.specs.Meaning.{meant}
+use Rattle.utf8.proofs.is_utf8.Statement.{statement}
+use Rattle.utf8.proofs.is_utf8.Tie as tie
 
 abbrev Inv : tie.InvT-loop
 Inv s n₀ low₀ high₀ i₀ n low high i = isUtf8From (drop i s) (due n low high) ≡ isUtf8 s

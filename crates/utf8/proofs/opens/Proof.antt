@@ -6,8 +6,8 @@ use lib.Dec.{eqb}
 use borrow.Author.Tests.{lt-ltb, le-ltb, eq-eqb, ne-eqb}
 use Rattle.definition.specs.Text.{if_then_else_, within, due, bad, dueAfter}
 use Rattle.laws.specs.TextSteps.{within-yes, within-low, within-high}
-use Rattle.text.proofs.opens.Statement.{statement}
-use Rattle.text.proofs.opens.Tie as tie
+use Rattle.utf8.proofs.opens.Statement.{statement}
+use Rattle.utf8.proofs.opens.Tie as tie
 
 -- the rows for bytes from 225 on, 237 apart
 lead : (b : ℕ) → 224 < b → (b ≡ 237 → ⊥) → dueAfter b ≡ (if within 225 239 b then due 2 128 191 else if eqb b 240 then due 3 144 191 else if within 241 243 b then due 3 128 191 else if eqb b 244 then due 3 128 143 else bad)

@@ -4,8 +4,8 @@ use lib.ListN.{length, getD}
 use borrow.Author.Needs.{needs}
 use borrow.Author.Count.{below-more}
 use native.Mathlib.Omega.{arith}
-use Rattle.text.proofs.largest.Statement.{statement}
-use Rattle.text.proofs.largest.Tie as tie
+use Rattle.utf8.proofs.largest.Statement.{statement}
+use Rattle.utf8.proofs.largest.Tie as tie
 
 abbrev Inv : tie.InvT-loop
 Inv s m₀ i₀ m i = (i ≤ length s) × ((k : ℕ) → k < i → getD s k 0 ≤ m)

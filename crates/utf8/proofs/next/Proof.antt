@@ -2,8 +2,8 @@ use mathlib.Core.Path.{sym, _∙_, ap}
 use borrow.Author.Needs.{needs}
 use Rattle.definition.specs.Text.{isUtf8From}
 use Rattle.laws.specs.TextSteps.{utf8-first, utf8-low, utf8-high, utf8-next}
-use Rattle.text.proofs.next.Statement.{statement}
-use Rattle.text.proofs.next.Tie as tie
+use Rattle.utf8.proofs.next.Statement.{statement}
+use Rattle.utf8.proofs.next.Tie as tie
 
 pub next-spec : {M : Type 1} → statement M
 next-spec =
