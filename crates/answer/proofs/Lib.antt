@@ -1,4 +1,1 @@
-pub mod Spreading
 pub mod Endings
-pub mod Filling
-pub mod Delivering

@@ -1,11 +1,9 @@
--- What an answer means: 01's number and the lengths of its texts, and what a call leaves.
-use mathlib.Core.List.{List, [], _∷_, _++_, map}
-use mathlib.Core.Option.{Option, none, some}
-use Prim.Native.Nat.{ℕ, _+_, _*_, _/_, _%_}
-use lib.ListN.{length, take, drop}
-use Rattle.definition.specs.Called.{Question, Rooms, Left, padded}
-use Rattle.listing_check.specs.declared.Checked.{Checked}
-use Rattle.listing_check.specs.declared.Checked.the-variants as InCheck
+-- What an answer means: 01's number and the lengths of its texts, and the case of an ending.
+use mathlib.Core.List.{List, [], _∷_}
+use Prim.Native.Nat.{ℕ}
+use lib.Dec.{eqb}
+use Rattle.definition.specs.Text.{if_then_else_}
+use Rattle.consults.specs.declared.Ending.{Ending}
 use Rattle.answer.specs.declared.Answer.{Answer}
 use Rattle.answer.specs.declared.Answer.the-variants.{Found, NotFound, Empty, InvalidPackageTarget, PackagePathNotExported, InvalidPackageConfig, InvalidPackageConfigDirectory, Json, Refused}
 
@@ -31,31 +29,15 @@ lengthsOf (InvalidPackageConfigDirectory m) = m ∷ []
 lengthsOf (Json m) = m ∷ []
 lengthsOf (Refused n) = []
 
--- the lent buffers' lengths
-abbrev pub roomsBy : ℕ → ℕ → ℕ → ℕ → Rooms
-roomsBy result numbers list work = record { result = result; numbers = numbers; list = list; work = work }
-
-abbrev pub roomsOf : List ℕ → List ℕ → List ℕ → ℕ → Rooms
-roomsOf result numbers list work = roomsBy (length result) (length numbers) (length list) work
-
--- an answer, with what stands in the lent buffers
-abbrev pub leftBy : Answer → List ℕ → List ℕ → List ℕ → List ℕ → Left
-leftBy a result numbers list work = record {
-  number = numberOf a;
-  lengths = lengthsOf a;
-  result = result;
-  numbers = numbers;
-  list = list;
-  work = work;
-}
-
--- the checks before the lookup and behind it
-abbrev pub refusalBy : Checked → Option ℕ
-refusalBy InCheck.Accepted = none
-refusalBy (InCheck.Refused n) = some n
-
--- the list numbers once each of count packed numbers, from the third on, is a length and, count further on, a state
-unfoldable pub spread : ℕ → List ℕ → List ℕ
-spread count numbers =
-    let packed = take count (drop 2 numbers) in
-    take 2 numbers ++ (map (λ n. n % 65536) packed ++ (map (λ n. n / 65536) packed ++ drop (2 + 2 * count) numbers))
+-- the case of an ending
+abbrev pub answerBy : Ending → Answer
+answerBy x =
+    if eqb (x .number) 0 then Found (x .first) (x .second) (x .third) else
+    if eqb (x .number) 1 then NotFound (x .first) else
+    if eqb (x .number) 2 then Empty (x .first) else
+    if eqb (x .number) 3 then InvalidPackageTarget (x .first) (x .second) (x .third) else
+    if eqb (x .number) 4 then PackagePathNotExported (x .first) (x .second) else
+    if eqb (x .number) 5 then InvalidPackageConfig (x .first) else
+    if eqb (x .number) 6 then InvalidPackageConfigDirectory (x .first) else
+    if eqb (x .number) 7 then Json (x .first) else
+    Refused (x .number)

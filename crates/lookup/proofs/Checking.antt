@@ -13,7 +13,7 @@ use Rattle.definition.specs.Called.{Question, Rooms, check, refusalOf}
 use Rattle.listing_check.specs.declared.Checked.{Checked}
 use Rattle.listing_check.specs.declared.Checked.the-variants.{Accepted, Refused}
 use Rattle.listing_check.specs.Meaning.{verdict}
-use Rattle.answer.specs.Meaning.{refusalBy}
+use Rattle.output.specs.Meaning.{refusalBy}
 
 abbrev orElse : Checked → Option ℕ → Option ℕ
 orElse Accepted rest = rest

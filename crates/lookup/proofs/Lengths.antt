@@ -15,8 +15,9 @@ use Rattle.laws.specs.WalkBounds.{EndFits, end-fits}
 use Rattle.consults.specs.declared.Ending.{Ending}
 use Rattle.answer.specs.declared.Answer.{Answer}
 use Rattle.lookup.specs.Meaning.{exported, inThree}
-use Rattle.answer.specs.Meaning.{numberOf, lengthsOf, leftBy}
-use Rattle.answer.specs.Walked.{textLength}
+use Rattle.answer.specs.Meaning.{numberOf, lengthsOf}
+use Rattle.output.specs.Meaning.{leftBy}
+use Rattle.output.specs.Walked.{textLength}
 use Rattle.lookup.proofs.Walking.{all-passed}
 
 abbrev sum : List ℕ → ℕ

@@ -14,7 +14,7 @@ use Rattle.definition.specs.Ask.{Consult}
 use Rattle.definition.specs.Called.{joined, paths}
 use Rattle.consults.specs.Tape.{Tape, most, put, written}
 use Rattle.consults.proofs.Laws.{overwrite-append}
-use Rattle.answer.specs.Walked.{packedOf}
+use Rattle.output.specs.Walked.{packedOf}
 
 -- one number at a place, and more behind it
 overwrite-set : (at x : ℕ) (t d : List ℕ) → overwrite (suc at) t (set d at x) ≡ overwrite at (x ∷ t) d

@@ -26,9 +26,9 @@ use Rattle.consults.specs.declared.Ending.{Ending}
 use Rattle.consults.specs.declared.Mark.{Mark}
 use Rattle.listing_check.specs.declared.Checked.{Checked}
 use Rattle.listing_check.specs.declared.Checked.the-variants.{Accepted}
-use Rattle.answer.specs.Meaning.{roomsOf, refusalBy}
-use Rattle.answer.specs.Walked.{packedOf, Small, Walked}
-use Rattle.answer.proofs.Endings.{length-of}
+use Rattle.output.specs.Meaning.{roomsOf, refusalBy}
+use Rattle.output.specs.Walked.{packedOf, Small, Walked}
+use Rattle.output.proofs.TextLengths.{length-of}
 use Rattle.lookup.proofs.Tapes.{Noted, noted}
 
 -- a check that passed

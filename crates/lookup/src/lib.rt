@@ -5,7 +5,7 @@ ghost use mathlib.Core.Path.{_≡_};
 ghost use lib.ListN.{length, replicate};
 ghost use Rattle.definition.specs.Called.{Rooms, refusalOf, called};
 ghost use Rattle.lookup.specs.Meaning.{questionOf, exported, inThree};
-ghost use Rattle.answer.specs.Meaning.{roomsOf, leftBy, refusalBy};
+ghost use Rattle.output.specs.Meaning.{roomsOf, leftBy, refusalBy};
 
 // The checks before the lookup, in document 01's order.
 fn check(listing: &[u8], settings: &[u8], start: &[u8], specifier: &[u8], work: usize) -> Checked
@@ -45,7 +45,7 @@ fn resolve(
 {
     let checked = check(listing, settings, start, specifier, work.len());
     match checked {
-        Checked::Refused(n) => answer::refuse(n, result, nums, text),
+        Checked::Refused(n) => output::refuse(n, result, nums, text),
         Checked::Accepted => {
             let finished = resolver::load_package_self_or_node_modules(
                 listing,
@@ -57,7 +57,7 @@ fn resolve(
                 text,
                 work,
             );
-            answer::deliver(finished.ending, finished.mark, result, nums, text)
+            output::deliver(finished.ending, finished.mark, result, nums, text)
         }
     }
 }

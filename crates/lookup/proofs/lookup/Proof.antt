@@ -1,4 +1,4 @@
-use Rattle.answer.proofs.Filling.{zero-all}
+use Rattle.output.proofs.Filling.{zero-all}
 use borrow.Author.Needs.{needs}
 use Rattle.lookup.proofs.lookup.Statement.{statement}
 use Rattle.lookup.proofs.lookup.Tie as tie

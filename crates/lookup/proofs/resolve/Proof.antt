@@ -2,8 +2,8 @@ use mathlib.Core.Path.{refl}
 use native.Mathlib.Omega.{arith}
 use lib.ListN.{length}
 use Rattle.lookup.specs.Meaning.{questionOf}
-use Rattle.answer.specs.Meaning.{roomsOf}
-use Rattle.answer.proofs.Delivering.{when-refused, when-accepted}
+use Rattle.output.specs.Meaning.{roomsOf}
+use Rattle.output.proofs.Delivering.{when-refused, when-accepted}
 use Rattle.lookup.proofs.Walking.{small, walked, same-rooms, called-by, passed-by}
 use borrow.Author.Needs.{needs}
 use Rattle.lookup.proofs.resolve.Statement.{statement}

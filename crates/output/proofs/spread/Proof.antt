@@ -4,9 +4,9 @@ use Prim.Native.Nat.{_+_, _≤_, _<_, _-_}
 use native.Mathlib.Omega.{arith}
 use lib.ListN.{length, getD, length-set}
 use borrow.Author.Needs.{needs}
-use Rattle.answer.proofs.Spreading.{spreadTo, spread-start, spread-end, packedAt, spread-here, spread-step}
-use Rattle.answer.proofs.spread.Statement.{statement}
-use Rattle.answer.proofs.spread.Tie as tie
+use Rattle.output.proofs.Spreading.{spreadTo, spread-start, spread-end, packedAt, spread-here, spread-step}
+use Rattle.output.proofs.spread.Statement.{statement}
+use Rattle.output.proofs.spread.Tie as tie
 
 abbrev Inv-loop : tie.InvT-loop
 Inv-loop nums₀ count i₀ nums i = (i ≤ count) × (length nums ≡ length nums₀) × (nums ≡ spreadTo i count nums₀)

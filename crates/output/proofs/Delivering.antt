@@ -16,10 +16,10 @@ use Rattle.consults.specs.declared.Ending.{Ending}
 use Rattle.consults.specs.declared.Mark.{Mark}
 use Rattle.listing_check.specs.declared.Checked.{Checked}
 use Rattle.listing_check.specs.declared.Checked.the-variants.{Accepted, Refused}
-use Rattle.answer.specs.Meaning.{refusalBy}
-use Rattle.answer.specs.Walked.{textLength, numbersLength, Counted}
-use Rattle.answer.proofs.Endings.{length-of}
-use Rattle.answer.proofs.Filling.{length-numbers}
+use Rattle.output.specs.Meaning.{refusalBy}
+use Rattle.output.specs.Walked.{textLength, numbersLength, Counted}
+use Rattle.output.proofs.TextLengths.{length-of}
+use Rattle.output.proofs.Filling.{length-numbers}
 
 -- an answer has a number up to 7
 answers : (e : End) → endNumber e ≤ 7 → isAnswer e ≡ true
@@ -87,3 +87,7 @@ module _ (m : Rooms) (o : Checked) (out due rest : Left) (d : due ≡ unlessRefu
   pub when-accepted : o ≡ Accepted → out ≡ rest → out ≡ due
   unfolding unlessRefused
   when-accepted e h = h ∙ sym (d ∙ rw e)
+
+-- the same, where the verdict is known
+pub when-beyond : (m : Rooms) (o : Checked) (out : Left) (n k : ℕ) → o ≡ Refused k → o ≡ Refused n → out ≡ zeros m n → out ≡ zeros m k
+when-beyond m o out n k e f h = let q : n ≡ k = cc in rw q at h

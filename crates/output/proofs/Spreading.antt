@@ -6,7 +6,7 @@ use native.Mathlib.Omega.{arith}
 use native.Mathlib.Numerals.{add-one}
 use lib.ListN.{length, take, drop, getD, set, length-append, length-take, length-drop, length-map, drop-of-length-le, take-append-drop}
 use lib.Seq.{take-suc, drop-cons, set-at, getD-at, take-all, drop-drop}
-use Rattle.answer.specs.Meaning.{spread}
+use Rattle.output.specs.Meaning.{spread}
 
 abbrev low : ℕ → ℕ
 low n = n % 65536

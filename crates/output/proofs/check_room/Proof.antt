@@ -2,11 +2,11 @@ use mathlib.Core.Path.{_≡_}
 use Prim.Native.Nat.{ℕ}
 use native.Mathlib.Omega.{arith}
 use Rattle.definition.specs.Called.{unlessRefused}
-use Rattle.answer.specs.Meaning.{roomsBy}
-use Rattle.answer.proofs.Delivering.{own, short-result, short-numbers, short-list, all-fits}
+use Rattle.output.specs.Meaning.{roomsBy}
+use Rattle.output.proofs.Delivering.{own, short-result, short-numbers, short-list, all-fits}
 use borrow.Author.Needs.{needs}
-use Rattle.answer.proofs.check_room.Statement.{statement}
-use Rattle.answer.proofs.check_room.Tie as tie
+use Rattle.output.proofs.check_room.Statement.{statement}
+use Rattle.output.proofs.check_room.Tie as tie
 
 pub check-room-spec : {M : Type 1} → statement M
 unfolding unlessRefused

@@ -2,9 +2,9 @@ use mathlib.Core.Path.{_∙_}
 use native.Mathlib.Omega.{arith}
 use lib.ListN.{length-set}
 use borrow.Author.Needs.{needs}
-use Rattle.answer.proofs.Filling.{numbers-done}
-use Rattle.answer.proofs.finish_numbers.Statement.{statement}
-use Rattle.answer.proofs.finish_numbers.Tie as tie
+use Rattle.output.proofs.Filling.{numbers-done}
+use Rattle.output.proofs.finish_numbers.Statement.{statement}
+use Rattle.output.proofs.finish_numbers.Tie as tie
 
 pub finish-numbers-spec : {M : Type 1} → statement M
 finish-numbers-spec =

@@ -2,8 +2,8 @@ use mathlib.Core.Path.{refl}
 use mathlib.Core.Bool.{false≢true}
 use native.Mathlib.Omega.{arith}
 use borrow.Author.Needs.{needs}
-use Rattle.answer.proofs.is_small.Statement.{statement}
-use Rattle.answer.proofs.is_small.Tie as tie
+use Rattle.output.proofs.is_small.Statement.{statement}
+use Rattle.output.proofs.is_small.Tie as tie
 
 pub is-small-spec : {M : Type 1} → statement M
 is-small-spec =

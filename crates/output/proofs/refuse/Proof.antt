@@ -1,8 +1,8 @@
 use borrow.Author.Needs.{needs}
 use Rattle.definition.specs.Called.{zeros}
-use Rattle.answer.proofs.Filling.{zero-all}
-use Rattle.answer.proofs.refuse.Statement.{statement}
-use Rattle.answer.proofs.refuse.Tie as tie
+use Rattle.output.proofs.Filling.{zero-all}
+use Rattle.output.proofs.refuse.Statement.{statement}
+use Rattle.output.proofs.refuse.Tie as tie
 
 pub refuse-spec : {M : Type 1} → statement M
 unfolding zeros

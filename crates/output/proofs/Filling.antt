@@ -11,9 +11,10 @@ use Rattle.definition.specs.Manifest.{End, endNumber, endTexts}
 use Rattle.definition.specs.Called.{padded, joined, paths, listNumbers, written}
 use Rattle.laws.specs.WalkBounds.{AllFit}
 use Rattle.consults.specs.Tape.{packed}
 use Rattle.answer.specs.declared.Answer.{Answer}
-use Rattle.answer.specs.Meaning.{numberOf, lengthsOf, roomsOf, leftBy, spread}
-use Rattle.answer.specs.Walked.{packedOf, Begins, Listed}
+use Rattle.answer.specs.Meaning.{numberOf, lengthsOf}
+use Rattle.output.specs.Meaning.{roomsOf, leftBy, spread}
+use Rattle.output.specs.Walked.{packedOf, Begins, Listed}
 
 -- a text with zeros behind it
 pub zero-behind : (n : ℕ) (s buffer : List ℕ) → n ≡ length s → take n buffer ≡ s → zeroFrom n buffer ≡ padded (length buffer) s
