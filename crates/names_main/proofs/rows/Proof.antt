@@ -1,8 +1,8 @@
 use borrow.Author.Needs.{needs}
 use Prim.Native.Nat.{_-_, _≤_}
 use lib.ListN.{length}
-use Rattle.path_main.proofs.rows.Statement.{statement}
-use Rattle.path_main.proofs.rows.Tie as tie
+use Rattle.names_main.proofs.rows.Statement.{statement}
+use Rattle.names_main.proofs.rows.Tie as tie
 
 abbrev Inv-loop : tie.InvT-loop
 Inv-loop table n₀ at₀ n at = n ≤ at

@@ -1,7 +1,7 @@
 use borrow.Author.Needs.{needs}
 use Prim.Native.Nat.{_-_}
-use Rattle.path_main.proofs.field.Statement.{statement}
-use Rattle.path_main.proofs.field.Tie as tie
+use Rattle.names_main.proofs.field.Statement.{statement}
+use Rattle.names_main.proofs.field.Tie as tie
 
 abbrev Inv-loop : tie.InvT-loop
 Inv-loop row k at₀ i₀ at i = Unit {0}
