@@ -21,7 +21,7 @@ use Rattle.json_text.specs.declared.Scan.{Scan}
 use Rattle.json_text.specs.declared.Scan.the-variants.{End, Fault}
 use Rattle.json_scalar.specs.declared.Then.{Then}
 use Rattle.json_scalar.specs.declared.Then.the-variants.{More, Close, Neither}
-use Rattle.json_text.proofs.Rules.{here, past}
+use Rattle.json_string.proofs.Rules.{here, past}
 use Rattle.json_names.proofs.Names.{table-more, table-empty, table-one, inserted-is}
 use Rattle.json_text.proofs.Laws.{faulty, ended, then-fault, then-end, reads-map}
 

@@ -20,7 +20,7 @@ use Rattle.json_names.specs.declared.Order.{Order}
 use Rattle.json_names.specs.declared.Order.the-variants.{Before, Same, Behind}
 use Rattle.json_names.specs.declared.Name.{Name}
 use Rattle.json_names.specs.declared.Name.the-variants.{New, Fault as NoName}
-use Rattle.json_text.proofs.Rules.{here, past}
+use Rattle.json_string.proofs.Rules.{here, past}
 
 no : {P : Type 0} → ⊥ → P
 no z = absurd z

@@ -9,16 +9,17 @@ use lib.Seq.{take-suc-set, drop-set-lt, drop-drop}
 use borrow.Author.Tests.{lt-ltb, le-ltb, le-leb, lt-leb}
 use Rattle.definition.specs.Text.{utf8, trail}
 use Rattle.definition.specs.Json.{Read, got, fault, malformed, beyond, andThen, between, string, goOn, step}
-use Rattle.json_text.specs.declared.Place.{Place}
-use Rattle.json_text.specs.declared.Out.{Out}
-use Rattle.json_text.specs.declared.Step.{Step}
-use Rattle.json_text.specs.declared.Step.the-variants.{Bad, Close, Gives}
-use Rattle.json_text.specs.Automaton.{placeOf, outOf, stepOf, Good, Fair, Steps}
+use Rattle.json_string.specs.declared.Place.{Place}
+use Rattle.json_string.specs.declared.Out.{Out}
+use Rattle.json_string.specs.declared.Step.{Step}
+use Rattle.json_string.specs.declared.Step.the-variants.{Bad, Close, Gives}
+use Rattle.json_string.specs.Automaton.{placeOf, outOf, stepOf, Good, Fair, Steps, advanced}
+use Rattle.json_string.proofs.Steps.{advanced-good}
 use Rattle.json_text.specs.Scanned.{faultOf}
 use Rattle.json_text.specs.Decoded.{Stands, decoded, Decodes}
 use Rattle.json_text.specs.declared.Text.{Text}
 use Rattle.json_text.specs.declared.Fault as code
-use Rattle.json_text.proofs.Rules.{here, past}
+use Rattle.json_string.proofs.Rules.{here, past}
 
 pub none-put : (w : List ℕ) (n : ℕ) → n ≤ 1024 → Stands w w n [] n
 none-put w n h = record { count = omega arith; room = h; bytes = sym (append-nil _); kept = refl }
@@ -82,7 +83,10 @@ module _ {m : List ℕ} {at : ℕ} {w₀ w : List ℕ} {p : Place} {i n : ℕ} (
   unfolding string
   at-end l = g .rest ∙ rw (past m i l)
 
-  module _ (l : i < length m) {s : Step} (e : Steps (step (placeOf p) (getD m i 0)) s) where
+  module _ (l : i < length m) {s : Step} (a : Steps (advanced p (getD m i 0)) s) where
+    e : Steps (step (placeOf p) (getD m i 0)) s
+    e = advanced-good p (getD m i 0) (g .good) a
+
     turn : (q : Step) → s ≡ q → string 1024 between (drop at m)
         ≡ andThen (goOn (stepOf q) (1024 - n) (λ r q. string r q (drop (i + 1) m)) (drop (i + 1) m)) (λ t r. got (take n w ++ t) r)
     unfolding string

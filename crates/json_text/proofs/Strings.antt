@@ -16,10 +16,10 @@ use Rattle.definition.specs.Json.{got, fault, malformed, beyond, andThen, betwe
 use Rattle.json_text.specs.Scanned.{left, Reads}
 use Rattle.json_text.specs.Decoded.{Begun, plain}
 use Rattle.json_text.specs.Texts.{startsQuote}
-use Rattle.json_text.specs.declared.Place.{Place}
-use Rattle.json_text.specs.declared.Step.{Step}
+use Rattle.json_string.specs.declared.Place.{Place}
+use Rattle.json_string.specs.declared.Step.{Step}
 use Rattle.json_text.specs.declared.Scan.the-variants.{End}
-use Rattle.json_text.proofs.Rules.{here, past}
+use Rattle.json_string.proofs.Rules.{here, past}
 use Rattle.json_text.proofs.Laws.{left-map}
 
 none : {P : Type 0} → ⊥ → P

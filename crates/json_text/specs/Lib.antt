@@ -1,4 +1,3 @@
 pub mod Scanned
-pub mod Automaton
 pub mod Decoded
 pub mod Texts

@@ -1,13 +1,16 @@
 // The strings of RFC 8259 at any place of any bytes: where one ends, its decoded text, and whether it is a given text.
+use json_string::Out;
+use json_string::Place;
+use json_string::Step;
 ghost use mathlib.Core.Path.{_≡_};
 ghost use mathlib.Core.List.{List, [], _∷_};
 ghost use Prim.Native.Nat.{ℕ, _+_, _≤_, _<_};
 ghost use lib.ListN.{length, drop};
-ghost use Rattle.definition.specs.Text.{hexDigit, utf8, trail as trailOf, equal as equalOf};
-ghost use Rattle.definition.specs.Json.{plainByte, escapeByte, unit as unitOf, pair as pairOf, hexByte, secondHexByte, step as stepBy, sequence, between, string as stringOf, quoted as quotedOf, got};
+ghost use Rattle.definition.specs.Text.{utf8, trail as trailOf, equal as equalOf};
+ghost use Rattle.definition.specs.Json.{between, string as stringOf, quoted as quotedOf, got};
 ghost use Rattle.definition.specs.JsonAt.{nameIs, textAt};
+ghost use Rattle.json_string.specs.Automaton.{outOf, Fair};
 ghost use Rattle.json_text.specs.Scanned.{Reads};
-ghost use Rattle.json_text.specs.Automaton.{placeOf, outOf, Steps, Good, High, Below, leadByte, digitOf, Fair};
 ghost use Rattle.json_text.specs.Decoded.{Begun, Puts, Decodes, plain};
 ghost use Rattle.json_text.specs.Texts.{startsQuote, textOf, told, orEmpty};
 
@@ -25,246 +28,6 @@ pub enum Fault {
 pub enum Scan {
     End(usize),
     Fault(Fault),
-}
-
-// Where the reader of a string stands: the definition's place.
-pub enum Place {
-    Between,
-    Sequence(u8, u8, u8),
-    Escape,
-    Hex(u8, u32),
-    SecondEscape(u32),
-    SecondU(u32),
-    SecondHex(u32, u8, u32),
-}
-
-// The decoded bytes that a byte gives: none, itself or another one, or those of a code point.
-pub enum Out {
-    None,
-    Byte(u8),
-    Point(u32),
-}
-
-pub enum Step {
-    Bad,
-    Close,
-    Gives(Out, Place),
-}
-
-// A byte between characters.
-fn plain_byte(b: u8) -> Step
-    ensures { λ r. ⌜ Steps (plainByte b) r ⌝ }
-{
-    if b < 32 {
-        return Step::Bad;
-    }
-    if b == 34 {
-        return Step::Close;
-    }
-    if b == 92 {
-        return Step::Gives(Out::None, Place::Escape);
-    }
-    if b < 128 {
-        return Step::Gives(Out::Byte(b), Place::Between);
-    }
-    lead_byte(b)
-}
-
-// The first byte of a UTF-8 sequence.
-fn lead_byte(b: u8) -> Step
-    ensures { λ r. ⌜ Steps (leadByte b) r ⌝ }
-{
-    if b < 194 {
-        return Step::Bad;
-    }
-    if b <= 223 {
-        return Step::Gives(Out::Byte(b), Place::Sequence(1, 128, 191));
-    }
-    if b == 224 {
-        return Step::Gives(Out::Byte(b), Place::Sequence(2, 160, 191));
-    }
-    if b == 237 {
-        return Step::Gives(Out::Byte(b), Place::Sequence(2, 128, 159));
-    }
-    if b <= 239 {
-        return Step::Gives(Out::Byte(b), Place::Sequence(2, 128, 191));
-    }
-    if b == 240 {
-        return Step::Gives(Out::Byte(b), Place::Sequence(3, 144, 191));
-    }
-    if b <= 243 {
-        return Step::Gives(Out::Byte(b), Place::Sequence(3, 128, 191));
-    }
-    if b == 244 {
-        return Step::Gives(Out::Byte(b), Place::Sequence(3, 128, 143));
-    }
-    Step::Bad
-}
-
-// A further byte of a UTF-8 sequence.
-fn sequence_byte(n: u8, lo: u8, hi: u8, b: u8) -> Step
-    requires { ⌜ 0 < n ⌝ }
-    ensures { λ r. ⌜ Steps (stepBy (sequence n lo hi) b) r ⌝ }
-{
-    if b < lo {
-        return Step::Bad;
-    }
-    if b > hi {
-        return Step::Bad;
-    }
-    if n == 1 {
-        return Step::Gives(Out::Byte(b), Place::Between);
-    }
-    Step::Gives(Out::Byte(b), Place::Sequence(n - 1, 128, 191))
-}
-
-// The byte behind a backslash.
-fn escape_byte(b: u8) -> Step
-    ensures { λ r. ⌜ Steps (escapeByte b) r ⌝ }
-{
-    if b == b'"' {
-        return Step::Gives(Out::Byte(b), Place::Between);
-    }
-    if b == b'\\' {
-        return Step::Gives(Out::Byte(b), Place::Between);
-    }
-    if b == b'/' {
-        return Step::Gives(Out::Byte(b), Place::Between);
-    }
-    if b == b'b' {
-        return Step::Gives(Out::Byte(8), Place::Between);
-    }
-    if b == b'f' {
-        return Step::Gives(Out::Byte(12), Place::Between);
-    }
-    if b == b'n' {
-        return Step::Gives(Out::Byte(10), Place::Between);
-    }
-    if b == b'r' {
-        return Step::Gives(Out::Byte(13), Place::Between);
-    }
-    if b == b't' {
-        return Step::Gives(Out::Byte(9), Place::Between);
-    }
-    if b == b'u' {
-        return Step::Gives(Out::None, Place::Hex(4, 0));
-    }
-    Step::Bad
-}
-
-// The value of a hexadecimal digit, or 16.
-fn hex_digit(b: u8) -> u32
-    ensures { λ r. ⌜ (hexDigit b ≡ digitOf r) × (r ≤ 16) ⌝ }
-{
-    if b < 48 {
-        return 16;
-    }
-    if b <= 57 {
-        return (b - 48) as u32;
-    }
-    if b < 65 {
-        return 16;
-    }
-    if b <= 70 {
-        return (b - 55) as u32;
-    }
-    if b < 97 {
-        return 16;
-    }
-    if b <= 102 {
-        return (b - 87) as u32;
-    }
-    16
-}
-
-// The number behind \u.
-fn unit(v: u32) -> Step
-    requires { ⌜ v < 65536 ⌝ }
-    ensures { λ r. ⌜ Steps (unitOf v) r ⌝ }
-{
-    if v < 0xd800 {
-        return Step::Gives(Out::Point(v), Place::Between);
-    }
-    if v <= 0xdbff {
-        return Step::Gives(Out::None, Place::SecondEscape(v));
-    }
-    if v <= 0xdfff {
-        return Step::Bad;
-    }
-    Step::Gives(Out::Point(v), Place::Between)
-}
-
-// The two halves of a surrogate pair.
-fn pair(high: u32, low: u32) -> Step
-    requires { ⌜ High high ⌝ }
-    ensures { λ r. ⌜ Steps (pairOf high low) r ⌝ }
-{
-    if low < 0xdc00 {
-        return Step::Bad;
-    }
-    if low > 0xdfff {
-        return Step::Bad;
-    }
-    let c = 0x10000 + (high - 0xd800) * 0x400 + (low - 0xdc00);
-    Step::Gives(Out::Point(c), Place::Between)
-}
-
-fn hex_byte(n: u8, v: u32, b: u8) -> Step
-    requires { ⌜ Below n v ⌝ }
-    ensures { λ r. ⌜ Steps (hexByte n v (hexDigit b)) r ⌝ }
-{
-    let x = hex_digit(b);
-    if x > 15 {
-        return Step::Bad;
-    }
-    let u = v * 16 + x;
-    if n == 1 {
-        return unit(u);
-    }
-    Step::Gives(Out::None, Place::Hex(n - 1, u))
-}
-
-fn second_hex_byte(high: u32, n: u8, v: u32, b: u8) -> Step
-    requires { ⌜ High high × Below n v ⌝ }
-    ensures { λ r. ⌜ Steps (secondHexByte high n v (hexDigit b)) r ⌝ }
-{
-    let x = hex_digit(b);
-    if x > 15 {
-        return Step::Bad;
-    }
-    let u = v * 16 + x;
-    if n == 1 {
-        return pair(high, u);
-    }
-    Step::Gives(Out::None, Place::SecondHex(high, n - 1, u))
-}
-
-// What a byte does at a place.
-fn advance(p: Place, b: u8) -> Step
-    requires { ⌜ Good p ⌝ }
-    ensures { λ r. ⌜ Steps (stepBy (placeOf p) b) r ⌝ }
-{
-    match p {
-        Place::Between => plain_byte(b),
-        Place::Sequence(n, lo, hi) => sequence_byte(n, lo, hi, b),
-        Place::Escape => escape_byte(b),
-        Place::Hex(n, v) => hex_byte(n, v, b),
-        Place::SecondEscape(high) => {
-            if b == b'\\' {
-                Step::Gives(Out::None, Place::SecondU(high))
-            } else {
-                Step::Bad
-            }
-        }
-        Place::SecondU(high) => {
-            if b == b'u' {
-                Step::Gives(Out::None, Place::SecondHex(high, 4, 0))
-            } else {
-                Step::Bad
-            }
-        }
-        Place::SecondHex(high, n, v) => second_hex_byte(high, n, v, b),
-    }
 }
 
 // Whether decoded bytes had room.
@@ -380,7 +143,7 @@ fn decode(m: &[u8], at: usize, w: &mut [u8]) -> Text
     let mut i = at;
     let mut n: usize = 0;
     while i < m.len() {
-        let s = advance(p, m[i]);
+        let s = json_string::advance(p, m[i]);
         match s {
             Step::Bad => return Text::Fault(Fault::Malformed),
             Step::Close => return Text::End(i + 1, n),

@@ -18,7 +18,7 @@ use Rattle.json_text.specs.Decoded.{plain}
 use Rattle.json_text.specs.declared.Scan.{Scan}
 use Rattle.json_text.specs.declared.Scan.the-variants.{End, Fault as Faulty}
 use Rattle.json_text.specs.declared.Fault as code
-use Rattle.json_text.proofs.Rules.{here, past}
+use Rattle.json_string.proofs.Rules.{here, past}
 use Rattle.json_text.proofs.Laws.{was-end, was-fault}
 use Rattle.json_text.proofs.Strings.{plain-stop-at}
 

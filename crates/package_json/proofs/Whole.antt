@@ -14,7 +14,7 @@ use Rattle.json_text.specs.Scanned.{faultOf, Reads}
 use Rattle.json_text.specs.declared.Fault as code
 use Rattle.json_text.specs.declared.Scan.{Scan}
 use Rattle.json_text.specs.declared.Scan.the-variants.{End, Fault}
-use Rattle.json_text.proofs.Rules.{here, past}
+use Rattle.json_string.proofs.Rules.{here, past}
 use Rattle.json_text.proofs.Laws.{was-end, was-fault}
 
 none : {P : Type 0} → ⊥ → P

@@ -1,6 +1,6 @@
 use mathlib.Core.Path.{sym, _∙_}
 use Prim.Native.Nat.{_-_}
-use Rattle.json_text.proofs.Rules.{here, past}
+use Rattle.json_string.proofs.Rules.{here, past}
 use Rattle.definition.specs.Json.{elements}
 use borrow.Author.Needs.{needs}
 use Rattle.json.proofs.extra_element.Statement.{statement}

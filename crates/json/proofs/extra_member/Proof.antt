@@ -1,7 +1,7 @@
 use Prim.Native.Nat.{_-_}
-use Rattle.json_text.proofs.Rules.{here, past}
+use Rattle.json_string.proofs.Rules.{here, past}
 use Rattle.definition.specs.Json.{members}
-use Rattle.json_text.proofs.Rules.{rules}
+use Rattle.json_string.proofs.Rules.{rules}
 use borrow.Author.Needs.{needs}
 use Rattle.json.proofs.extra_member.Statement.{statement}
 use Rattle.json.proofs.extra_member.Tie as tie

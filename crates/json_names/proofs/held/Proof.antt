@@ -1,5 +1,5 @@
 use Rattle.json_names.specs.Names.{held}
-use Rattle.json_text.proofs.Rules.{rules}
+use Rattle.json_string.proofs.Rules.{rules}
 use Rattle.json_names.proofs.held.Statement.{statement}
 use Rattle.json_names.proofs.held.Tie as tie
 

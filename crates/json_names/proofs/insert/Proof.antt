@@ -5,7 +5,7 @@ use lib.ListN.{length, length-set, set, getD}
 use borrow.Author.Needs.{needs}
 use Rattle.json_names.specs.Names.{inserted}
 use Rattle.json_names.proofs.Names.{moved, moved-start, moved-on, moved-end}
-use Rattle.json_text.proofs.Rules.{rules}
+use Rattle.json_string.proofs.Rules.{rules}
 use Rattle.json_names.proofs.insert.Statement.{statement}
 use Rattle.json_names.proofs.insert.Tie as tie
 

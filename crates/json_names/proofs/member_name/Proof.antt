@@ -5,7 +5,7 @@ use lib.ListN.{drop}
 use native.Mathlib.Omega.{arith}
 use borrow.Author.Needs.{needs}
 use Rattle.json_text.proofs.Strings.{quoted-out, quoted-string, text-plain}
-use Rattle.json_text.proofs.Rules.{here}
+use Rattle.json_string.proofs.Rules.{here}
 use Rattle.json_names.proofs.Names.{name-read, name-fault, held-within, among-held}
 use Rattle.json_text.proofs.Laws.{was-end, was-fault}
 use Rattle.json_names.proofs.member_name.Statement.{statement}

@@ -1,6 +1,6 @@
 use Rattle.json_scalar.specs.Scalars.{afterOf}
-use Rattle.json_text.proofs.Rules.{here, past}
-use Rattle.json_text.proofs.Rules.{rules}
+use Rattle.json_string.proofs.Rules.{here, past}
+use Rattle.json_string.proofs.Rules.{rules}
 use borrow.Author.Needs.{needs}
 use Rattle.json_scalar.proofs.after.Statement.{statement}
 use Rattle.json_scalar.proofs.after.Tie as tie

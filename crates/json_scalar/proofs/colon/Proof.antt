@@ -1,8 +1,8 @@
 use Prim.Native.Nat.{_-_}
-use Rattle.json_text.proofs.Rules.{here, past}
+use Rattle.json_string.proofs.Rules.{here, past}
 use Rattle.json_text.proofs.Laws.{ended}
 use Rattle.json_scalar.specs.Scalars.{colonAt}
-use Rattle.json_text.proofs.Rules.{rules}
+use Rattle.json_string.proofs.Rules.{rules}
 use borrow.Author.Needs.{needs}
 use Rattle.json_scalar.proofs.colon.Statement.{statement}
 use Rattle.json_scalar.proofs.colon.Tie as tie

@@ -1,6 +1,6 @@
 use mathlib.Core.Path.{sym, _∙_}
 use Rattle.definition.specs.Json.{digits}
-use Rattle.json_text.proofs.Rules.{here, past}
+use Rattle.json_string.proofs.Rules.{here, past}
 use Rattle.json_text.proofs.Laws.{faulty, ended}
 use borrow.Author.Needs.{needs}
 use Rattle.json_scalar.proofs.digits.Statement.{statement}

@@ -1,6 +1,6 @@
 use Rattle.definition.specs.Json.{exponent}
-use Rattle.json_text.proofs.Rules.{here, past}
-use Rattle.json_text.proofs.Rules.{rules}
+use Rattle.json_string.proofs.Rules.{here, past}
+use Rattle.json_string.proofs.Rules.{rules}
 use borrow.Author.Needs.{needs}
 use Rattle.json_scalar.proofs.exponent.Statement.{statement}
 use Rattle.json_scalar.proofs.exponent.Tie as tie

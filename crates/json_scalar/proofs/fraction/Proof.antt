@@ -1,6 +1,6 @@
 use borrow.Author.Tests.{ne-eqb}
 use Rattle.definition.specs.Json.{fraction, exponent}
-use Rattle.json_text.proofs.Rules.{here, past}
+use Rattle.json_string.proofs.Rules.{here, past}
 use Rattle.json_text.proofs.Laws.{then-fault, then-end}
 use borrow.Author.Needs.{needs}
 use Rattle.json_scalar.proofs.fraction.Statement.{statement}

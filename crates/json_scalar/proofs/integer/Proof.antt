@@ -1,8 +1,8 @@
 use mathlib.Core.Path.{sym, _∙_}
 use borrow.Author.Tests.{ne-eqb}
 use Rattle.definition.specs.Json.{integer}
-use Rattle.json_text.proofs.Rules.{here, past}
-use Rattle.json_text.proofs.Rules.{rules}
+use Rattle.json_string.proofs.Rules.{here, past}
+use Rattle.json_string.proofs.Rules.{rules}
 use borrow.Author.Needs.{needs}
 use Rattle.json_scalar.proofs.integer.Statement.{statement}
 use Rattle.json_scalar.proofs.integer.Tie as tie

@@ -1,5 +1,5 @@
 use Rattle.definition.specs.Text.{isDigit, within}
-use Rattle.json_text.proofs.Rules.{rules}
+use Rattle.json_string.proofs.Rules.{rules}
 use Rattle.json_scalar.proofs.is_digit.Statement.{statement}
 use Rattle.json_scalar.proofs.is_digit.Tie as tie
 

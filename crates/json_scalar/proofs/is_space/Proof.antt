@@ -1,5 +1,5 @@
 use Rattle.definition.specs.Json.{isSpace}
-use Rattle.json_text.proofs.Rules.{rules}
+use Rattle.json_string.proofs.Rules.{rules}
 use Rattle.json_scalar.proofs.is_space.Statement.{statement}
 use Rattle.json_scalar.proofs.is_space.Tie as tie
 

@@ -1,6 +1,6 @@
 use borrow.Author.Tests.{ne-eqb}
 use Rattle.json_scalar.specs.Scalars.{scalarOf}
-use Rattle.json_text.proofs.Rules.{here, past}
+use Rattle.json_string.proofs.Rules.{here, past}
 use borrow.Author.Needs.{needs}
 use Rattle.json_scalar.proofs.scalar.Statement.{statement}
 use Rattle.json_scalar.proofs.scalar.Tie as tie

@@ -1,6 +1,6 @@
 use Rattle.definition.specs.Json.{sign}
-use Rattle.json_text.proofs.Rules.{here, past}
-use Rattle.json_text.proofs.Rules.{rules}
+use Rattle.json_string.proofs.Rules.{here, past}
+use Rattle.json_string.proofs.Rules.{rules}
 use borrow.Author.Needs.{needs}
 use Rattle.json_scalar.proofs.sign.Statement.{statement}
 use Rattle.json_scalar.proofs.sign.Tie as tie

@@ -3,7 +3,7 @@ use Prim.Native.Nat.{_-_}
 use lib.ListN.{length, drop}
 use Rattle.definition.specs.Text.{skipWhile}
 use Rattle.definition.specs.Json.{skipSpace}
-use Rattle.json_text.proofs.Rules.{here, past}
+use Rattle.json_string.proofs.Rules.{here, past}
 use borrow.Author.Needs.{needs}
 use Rattle.json_scalar.proofs.skip_space.Statement.{statement}
 use Rattle.json_scalar.proofs.skip_space.Tie as tie

@@ -1,6 +1,6 @@
 use mathlib.Core.Path.{sym, _∙_}
 use Rattle.definition.specs.Json.{startsValue}
-use Rattle.json_text.proofs.Rules.{rules}
+use Rattle.json_string.proofs.Rules.{rules}
 use borrow.Author.Needs.{needs}
 use Rattle.json_scalar.proofs.starts_value.Statement.{statement}
 use Rattle.json_scalar.proofs.starts_value.Tie as tie

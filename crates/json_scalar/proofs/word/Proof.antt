@@ -4,7 +4,7 @@ use lib.ListN.{length, drop}
 use Rattle.definition.specs.Json.{word}
 use Rattle.json_text.specs.Scanned.{left}
 use borrow.Author.Needs.{needs}
-use Rattle.json_text.proofs.Rules.{rules}
+use Rattle.json_string.proofs.Rules.{rules}
 use Rattle.json_scalar.proofs.word.Statement.{statement}
 use Rattle.json_scalar.proofs.word.Tie as tie
 

@@ -21,7 +21,7 @@ decode-spec =
     μ-loop
     (λ c. (refl, begin _ _ _))
     (λ c. search needs)
-    (λ c κs. c .before .before .loop .inv .1 .good)
+    (λ c κs. search needs)
     (λ c. search needs)
     (λ c. search needs)
     (λ c. record { is = on-bad (c .before .before .before .before .before .loop .inv .1) (c .before .before .before .before .loop-test .taken) (c .before .before .advance .ensures) (c .enum-told .given .1); kept = (c .before .before .before .before .before .loop .n, c .before .before .before .before .before .loop .inv .1 .kept) })

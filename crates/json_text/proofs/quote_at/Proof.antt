@@ -1,6 +1,6 @@
 use Prim.Native.Nat.{_-_}
 use borrow.Author.Needs.{needs}
-use Rattle.json_text.proofs.Rules.{here, past}
+use Rattle.json_string.proofs.Rules.{here, past}
 use Rattle.json_text.proofs.quote_at.Statement.{statement}
 use Rattle.json_text.proofs.quote_at.Tie as tie
 

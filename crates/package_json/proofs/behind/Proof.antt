@@ -1,6 +1,6 @@
 use Prim.Native.Nat.{_-_}
 use borrow.Author.Needs.{needs}
-use Rattle.json_text.proofs.Rules.{here, past}
+use Rattle.json_string.proofs.Rules.{here, past}
 use Rattle.definition.specs.JsonAt.{behind}
 use borrow.Author.Tests.{eq-eqb, ne-eqb}
 use Rattle.package_json.proofs.behind.Statement.{statement}

@@ -1,7 +1,7 @@
 use mathlib.Core.Path.{sym, _∙_}
 use Prim.Native.Nat.{_-_}
 use borrow.Author.Needs.{needs}
-use Rattle.json_text.proofs.Rules.{here, past}
+use Rattle.json_string.proofs.Rules.{here, past}
 use Rattle.definition.specs.JsonAt.{kindAt}
 use borrow.Author.Tests.{eq-eqb, ne-eqb}
 use Rattle.package_json.proofs.kind_at.Statement.{statement}

@@ -1,7 +1,7 @@
 use mathlib.Core.Path.{sym, _∙_}
 use Prim.Native.Nat.{_-_}
 use borrow.Author.Needs.{needs}
-use Rattle.json_text.proofs.Rules.{here, past}
+use Rattle.json_string.proofs.Rules.{here, past}
 use Rattle.package_json.proofs.Walks.{rest-some, rest-none}
 use Rattle.definition.specs.JsonAt.{valueEnd}
 use Rattle.definition.specs.Json.{value}

@@ -1,12 +1,12 @@
-use Rattle.json_text.specs.Automaton.{leadByte}
+use Rattle.json_string.specs.Automaton.{leadByte}
 use Rattle.definition.specs.Text.{within}
 use mathlib.Core.Path.{sym}
 use borrow.Author.Tests.{lt-leb, ne-eqb}
 use Prim.Native.Nat.{_≤_, _-_}
-use Rattle.json_text.proofs.Rules.{rules}
+use Rattle.json_string.proofs.Rules.{rules}
 use native.Mathlib.Omega.{arith}
-use Rattle.json_text.proofs.lead_byte.Statement.{statement}
-use Rattle.json_text.proofs.lead_byte.Tie as tie
+use Rattle.json_string.proofs.lead_byte.Statement.{statement}
+use Rattle.json_string.proofs.lead_byte.Tie as tie
 
 pub lead-byte-spec : {M : Type 1} → statement M
 unfolding leadByte within

@@ -1,18 +1,19 @@
 -- The code's places, outputs and steps of a string's reader as the definition's.
 use mathlib.Core.Path.{_≡_}
 use Prim.Native.Nat.{ℕ, zero, suc, _-_, _≤_, _<_}
+use mathlib.Core.Bool.{Bool, true, false}
 use mathlib.Core.List.{List, [], _∷_}
 use mathlib.Core.Option.{Option, none, some}
 use lib.Dec.{eqb, ltb}
 use Rattle.definition.specs.Text.{if_then_else_, within, utf8}
 use Rattle.definition.specs.Json as json
 use Rattle.definition.specs.Json.{between, sequence, escape, hex, secondEscape, secondU, secondHex, bad, close, gives}
-use Rattle.json_text.specs.declared.Place.{Place}
-use Rattle.json_text.specs.declared.Place.the-variants.{Between, Sequence, Escape, Hex, SecondEscape, SecondU, SecondHex}
-use Rattle.json_text.specs.declared.Out.{Out}
-use Rattle.json_text.specs.declared.Out.the-variants.{None, Byte, Point}
-use Rattle.json_text.specs.declared.Step.{Step}
-use Rattle.json_text.specs.declared.Step.the-variants.{Bad, Close, Gives}
+use Rattle.json_string.specs.declared.Place.{Place}
+use Rattle.json_string.specs.declared.Place.the-variants.{Between, Sequence, Escape, Hex, SecondEscape, SecondU, SecondHex}
+use Rattle.json_string.specs.declared.Out.{Out}
+use Rattle.json_string.specs.declared.Out.the-variants.{None, Byte, Point}
+use Rattle.json_string.specs.declared.Step.{Step}
+use Rattle.json_string.specs.declared.Step.the-variants.{Bad, Close, Gives}
 
 abbrev pub placeOf : Place → json.Place
 placeOf Between = between
@@ -59,6 +60,23 @@ Good (Hex n v) = Below n v
 Good (SecondEscape h) = High h
 Good (SecondU h) = High h
 Good (SecondHex h n v) = High h × Below n v
+
+-- the same of a place, by tests
+unfoldable pub follows : ℕ → ℕ → Bool
+follows n v = if eqb n 1 then ltb v 4096 else if eqb n 2 then ltb v 256 else if eqb n 3 then ltb v 16 else if eqb n 4 then eqb v 0 else false
+
+abbrev pub fits : Place → Bool
+fits Between = true
+fits (Sequence n lo hi) = ltb 0 n
+fits Escape = true
+fits (Hex n v) = follows n v
+fits (SecondEscape h) = within 55296 56319 h
+fits (SecondU h) = within 55296 56319 h
+fits (SecondHex h n v) = if within 55296 56319 h then follows n v else false
+
+-- the definition's step from a place that fits; at any other a byte is bad
+unfoldable pub advanced : Place → ℕ → json.Step
+advanced p b = if fits p then json.step (placeOf p) b else bad
 
 abbrev pub Fair : Out → Type 0
 Fair None = Unit {0}

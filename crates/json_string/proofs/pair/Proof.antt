@@ -1,10 +1,10 @@
 use Rattle.definition.specs.Text.{within}
 use Rattle.definition.specs.Json.{pair}
 use Prim.Native.Nat.{_-_}
-use Rattle.json_text.proofs.Rules.{rules}
+use Rattle.json_string.proofs.Rules.{rules}
 use borrow.Author.Needs.{needs}
-use Rattle.json_text.proofs.pair.Statement.{statement}
-use Rattle.json_text.proofs.pair.Tie as tie
+use Rattle.json_string.proofs.pair.Statement.{statement}
+use Rattle.json_string.proofs.pair.Tie as tie
 
 pub pair-spec : {M : Type 1} → statement M
 unfolding pair within

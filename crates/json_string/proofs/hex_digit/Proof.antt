@@ -1,11 +1,11 @@
-use Rattle.json_text.specs.Automaton.{digitOf}
+use Rattle.json_string.specs.Automaton.{digitOf}
 use Rattle.definition.specs.Text.{within, hexDigit, isDigit}
 use Prim.Native.Nat.{_≤_, _<_, _-_}
-use Rattle.json_text.proofs.Rules.{rules}
+use Rattle.json_string.proofs.Rules.{rules}
 use native.Mathlib.Omega.{arith}
 use borrow.Author.Needs.{needs}
-use Rattle.json_text.proofs.hex_digit.Statement.{statement}
-use Rattle.json_text.proofs.hex_digit.Tie as tie
+use Rattle.json_string.proofs.hex_digit.Statement.{statement}
+use Rattle.json_string.proofs.hex_digit.Tie as tie
 
 pub hex-digit-spec : {M : Type 1} → statement M
 unfolding hexDigit within isDigit digitOf

@@ -1,10 +1,10 @@
 use Rattle.definition.specs.Text.{within}
 use Rattle.definition.specs.Json.{unit}
 use Prim.Native.Nat.{_≤_, _<_, _-_}
-use Rattle.json_text.proofs.Rules.{rules}
+use Rattle.json_string.proofs.Rules.{rules}
 use native.Mathlib.Omega.{arith}
-use Rattle.json_text.proofs.unit.Statement.{statement}
-use Rattle.json_text.proofs.unit.Tie as tie
+use Rattle.json_string.proofs.unit.Statement.{statement}
+use Rattle.json_string.proofs.unit.Tie as tie
 
 pub unit-spec : {M : Type 1} → statement M
 unfolding unit within

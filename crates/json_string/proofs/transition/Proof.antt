@@ -1,15 +1,15 @@
 use Rattle.definition.specs.Json.{step}
 use mathlib.Core.Path.{sym}
 use Prim.Native.Nat.{_-_}
-use Rattle.json_text.proofs.Rules.{rules}
+use Rattle.json_string.proofs.Rules.{rules}
 use native.Mathlib.Omega.{arith}
 use borrow.Author.Needs.{needs}
-use Rattle.json_text.proofs.advance.Statement.{statement}
-use Rattle.json_text.proofs.advance.Tie as tie
+use Rattle.json_string.proofs.transition.Statement.{statement}
+use Rattle.json_string.proofs.transition.Tie as tie
 
-pub advance-spec : {M : Type 1} → statement M
+pub transition-spec : {M : Type 1} → statement M
 unfolding step
-advance-spec =
+transition-spec =
     tie.close
     (tie.spec
     (λ c. search needs)

@@ -1,11 +1,11 @@
-use Rattle.json_text.specs.Automaton.{leadByte}
+use Rattle.json_string.specs.Automaton.{leadByte}
 use Rattle.definition.specs.Json.{plainByte}
 use mathlib.Core.Path.{_∙_}
 use Prim.Native.Nat.{_-_}
-use Rattle.json_text.proofs.Rules.{rules}
+use Rattle.json_string.proofs.Rules.{rules}
 use borrow.Author.Needs.{needs}
-use Rattle.json_text.proofs.plain_byte.Statement.{statement}
-use Rattle.json_text.proofs.plain_byte.Tie as tie
+use Rattle.json_string.proofs.plain_byte.Statement.{statement}
+use Rattle.json_string.proofs.plain_byte.Tie as tie
 
 pub plain-byte-spec : {M : Type 1} → statement M
 unfolding plainByte leadByte

@@ -2,13 +2,13 @@ use Rattle.definition.specs.Text.{within}
 use Rattle.definition.specs.Json.{step, sequenceByte}
 use mathlib.Core.Path.{sym}
 use borrow.Author.Tests.{le-leb}
-use Rattle.json_text.proofs.Steps.{seq-more}
+use Rattle.json_string.proofs.Steps.{seq-more}
 use Prim.Native.Nat.{_-_}
-use Rattle.json_text.proofs.Rules.{rules}
+use Rattle.json_string.proofs.Rules.{rules}
 use native.Mathlib.Omega.{arith}
 use borrow.Author.Needs.{needs}
-use Rattle.json_text.proofs.sequence_byte.Statement.{statement}
-use Rattle.json_text.proofs.sequence_byte.Tie as tie
+use Rattle.json_string.proofs.sequence_byte.Statement.{statement}
+use Rattle.json_string.proofs.sequence_byte.Tie as tie
 
 pub sequence-byte-spec : {M : Type 1} → statement M
 unfolding step within sequenceByte

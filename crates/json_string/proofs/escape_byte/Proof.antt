@@ -1,10 +1,10 @@
 use Rattle.definition.specs.Json.{escapeByte}
 use Prim.Native.Nat.{_-_}
 use borrow.Author.Needs.{needs}
-use Rattle.json_text.proofs.Rules.{rules}
+use Rattle.json_string.proofs.Rules.{rules}
 use native.Mathlib.Omega.{arith}
-use Rattle.json_text.proofs.escape_byte.Statement.{statement}
-use Rattle.json_text.proofs.escape_byte.Tie as tie
+use Rattle.json_string.proofs.escape_byte.Statement.{statement}
+use Rattle.json_string.proofs.escape_byte.Tie as tie
 
 pub escape-byte-spec : {M : Type 1} → statement M
 unfolding escapeByte

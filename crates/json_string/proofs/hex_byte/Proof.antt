@@ -1,11 +1,11 @@
 use Rattle.definition.specs.Json.{hexByte}
 use mathlib.Core.Path.{sym, _∙_}
-use Rattle.json_text.proofs.Steps.{hex-more, fewer, in-four, digit-yes, digit-no}
+use Rattle.json_string.proofs.Steps.{hex-more, fewer, in-four, digit-yes, digit-no}
 use Prim.Native.Nat.{_-_}
 use native.Mathlib.Omega.{arith}
 use borrow.Author.Needs.{needs}
-use Rattle.json_text.proofs.hex_byte.Statement.{statement}
-use Rattle.json_text.proofs.hex_byte.Tie as tie
+use Rattle.json_string.proofs.hex_byte.Statement.{statement}
+use Rattle.json_string.proofs.hex_byte.Tie as tie
 
 pub hex-byte-spec : {M : Type 1} → statement M
 unfolding hexByte
