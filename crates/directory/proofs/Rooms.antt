@@ -10,7 +10,7 @@ use Rattle.definition.specs.Manifest.{End}
 use Rattle.consults.specs.declared.Ending.{Ending}
 use Rattle.consults.specs.Tape.{Tape, Done}
 use Rattle.consults.specs.Meaning.{numbers}
-use Rattle.directory.specs.Refusals.{DoneUnless, done, refused, roomIn}
+use Rattle.directory.specs.Refusals.{DoneUnless, done, refused, roomIn, orLonger}
 
 module _ {M A : Type 0} {L : Listing M} {t : Ask End M A} {s : Tape} where
   -- for a caller
@@ -33,3 +33,17 @@ enough w h = rw (le-leb 1024 w h)
 pub too-little : (w : ℕ) → w < 1024 → roomIn w ≡ some 25
 unfolding roomIn
 too-little w h = rw (lt-leb 1024 w h)
+
+-- and a text that is not too long
+module _ (k most w n : ℕ) where
+  pub fits : 1024 ≤ w → n ≤ most → orLonger k most n (roomIn w) ≡ none
+  unfolding orLonger
+  fits h i = rw (enough w h, le-leb n most i)
+
+  pub no-room : w < 1024 → orLonger k most n (roomIn w) ≡ some 25
+  unfolding orLonger
+  no-room h = rw (too-little w h)
+
+  pub too-long : 1024 ≤ w → most < n → orLonger k most n (roomIn w) ≡ some k
+  unfolding orLonger
+  too-long h i = rw (enough w h, lt-leb n most i)

@@ -19,3 +19,8 @@ pub data DoneUnless {M A : Type 0} (L : Listing M) (t : Ask End M A) (s : Tape) 
 -- 25: the work memory has fewer than 1,024 bytes
 unfoldable pub roomIn : ℕ → Option ℕ
 roomIn w = if leb 1024 w then none else some 25
+
+-- the same, or else k: a text has more than `most` bytes
+unfoldable pub orLonger : (k most n : ℕ) → Option ℕ → Option ℕ
+orLonger k most n none = if leb n most then none else some k
+orLonger k most n (some j) = some j

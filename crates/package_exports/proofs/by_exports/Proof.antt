@@ -1,17 +1,10 @@
 use mathlib.Core.Path.{_∙_}
 use native.Mathlib.Omega.{arith}
 use Rattle.definition.specs.Settings.{settingsOf}
-use Rattle.package_exports.proofs.Matches.{dotted-text, exports-missing, exports-there}
+use Rattle.package_exports.proofs.Fields.{dotted-text, exports-missing, exports-there}
 use borrow.Author.Needs.{needs}
 use Rattle.package_exports.proofs.by_exports.Statement.{statement}
 use Rattle.package_exports.proofs.by_exports.Tie as tie
-use Rattle.package_exports.proofs.by_exports.Reads as reads
-use Rattle.package_exports.proofs.by_exports.Lts as lts
-use Rattle.consults.proofs.next.Reads as next-reads
-use Rattle.path.proofs.first.Reads as first-reads
-use Rattle.package_exports.proofs.exports_field.Reads as exports-field-reads
-use Rattle.package_exports.proofs.resolve_exports.Reads as resolve-exports-reads
-use Rattle.package_name.proofs.dot_subpath.Reads as dot-subpath-reads
 
 pub by-exports-spec : {M : Type 1} → statement M
 unfolding settingsOf

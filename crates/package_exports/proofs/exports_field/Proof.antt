@@ -7,15 +7,10 @@ use lib.ListN.{length, drop}
 use Rattle.definition.specs.JsonAt.{getAt}
 use Rattle.definition.specs.Settings.{textsOf}
 use Rattle.files.proofs.Files.{left-texts, none-left}
-use Rattle.package_exports.proofs.Matches.{Passed, passed-end, passed-more, passed-here}
+use Rattle.package_exports.proofs.Fields.{Passed, passed-end, passed-more, passed-here}
 use borrow.Author.Needs.{needs}
 use Rattle.package_exports.proofs.exports_field.Statement.{statement}
 use Rattle.package_exports.proofs.exports_field.Tie as tie
-use Rattle.package_exports.proofs.exports_field.Reads as reads
-use Rattle.package_exports.proofs.exports_field.Lts as lts
-use Rattle.package_json.proofs.get.Reads as get-reads
-use Rattle.settings.proofs.count.Reads as count-reads
-use Rattle.settings.proofs.text.Reads as text-reads
 
 abbrev Inv-loop : tie.InvT-loop
 Inv-loop m root s n i₀ i = Passed m root (textsOf s 4) (drop i (textsOf s 4))

@@ -3,18 +3,10 @@ use mathlib.Core.Option.{some}
 use native.Mathlib.Omega.{arith}
 use lib.ListN.{length, length-drop}
 use Rattle.directory.proofs.Manifests.{field-text, text-there}
-use Rattle.package_exports.proofs.Matches.{self-nameless, self-other, self-named}
+use Rattle.package_exports.proofs.Fields.{self-nameless, self-other, self-named}
 use borrow.Author.Needs.{needs}
 use Rattle.package_exports.proofs.in_scope.Statement.{statement}
 use Rattle.package_exports.proofs.in_scope.Tie as tie
-use Rattle.package_exports.proofs.in_scope.Reads as reads
-use Rattle.package_exports.proofs.in_scope.Lts as lts
-use Rattle.consults.proofs.next.Reads as next-reads
-use Rattle.json_text.proofs.text_at.Reads as text-at-reads
-use Rattle.package_exports.proofs.by_exports.Reads as by-exports-reads
-use Rattle.directory.proofs.text_field.Reads as text-field-reads
-use Rattle.package_name.proofs.strip_package_name.Reads as strip-package-name-reads
-use Rattle.specifier.proofs.tail.Reads as tail-reads
 
 pub in-scope-spec : {M : Type 1} → statement M
 in-scope-spec =

@@ -2,29 +2,20 @@ use mathlib.Core.Path.{_∙_}
 use Rattle.definition.specs.Settings.{settingsOf}
 use Rattle.definition.specs.Path.{dirs}
 use Rattle.directory.proofs.Manifests.{scope-fits}
-use Rattle.directory.proofs.Rooms.{is-done, is-refused}
-use Rattle.package_exports.proofs.Fits.{fits, no-room, too-long}
-use Rattle.package_exports.proofs.Matches.{self-ended, self-bare, self-scope}
+use Rattle.directory.proofs.Rooms.{is-done, is-refused, fits, no-room, too-long}
+use Rattle.package_exports.proofs.Fields.{self-ended, self-bare, self-scope}
 use borrow.Author.Needs.{needs}
 use Rattle.package_exports.proofs.load_package_self.Statement.{statement}
 use Rattle.package_exports.proofs.load_package_self.Tie as tie
-use Rattle.package_exports.proofs.load_package_self.Reads as reads
-use Rattle.package_exports.proofs.load_package_self.Lts as lts
-use Rattle.consults.proofs.next.Reads as next-reads
-use Rattle.directory.proofs.scope.Reads as scope-reads
-use Rattle.consults.proofs.refused.Reads as refused-reads
-use Rattle.listing.proofs.contents.Reads as contents-reads
-use Rattle.package_exports.proofs.in_scope.Reads as in-scope-reads
-use Rattle.path.proofs.first.Reads as first-reads
 
 pub load-package-self-spec : {M : Type 1} → statement M
 load-package-self-spec =
     tie.close
     (tie.spec
     (λ c κs. search needs)
-    (λ c. rw (c .refused .ensures) (is-refused _ 25 (no-room _ _ (c .before .if1 .taken))))
+    (λ c. rw (c .refused .ensures) (is-refused _ 25 (no-room 22 2048 _ _ (c .before .if1 .taken))))
     (λ c κs. search needs)
-    (λ c. rw (c .refused2 .ensures) (is-refused _ 22 (too-long _ _ (c .before .before .if1 .left) (c .before .if2 .taken))))
+    (λ c. rw (c .refused2 .ensures) (is-refused _ 22 (too-long 22 2048 _ _ (c .before .before .if1 .left) (c .before .if2 .taken))))
     (λ c κs. search needs)
     (λ c. search needs)
     (λ c. search needs)
@@ -35,7 +26,7 @@ load-package-self-spec =
     let o = c .before .before .before .before .before .before .before .before .before .scope in
     let a = c .before .before .before .before .before .before .before .before .before .before .before .before .before .before .before .before .before .before .before .before .before .before .before .args in
     let g = settingsOf (a .s .now) in
-    is-done _ (fits _ _ (c .before .before .before .before .before .before .before .before .before .before .before .before .before .before .if1 .left) (c .before .before .before .before .before .before .before .before .before .before .before .before .before .if2 .left)) (self-ended g (a .start .now) _ (a .l .now) (o .result .way) (o .result .package) (c .before .match .keys2) (o .ensures .0 g)))
+    is-done _ (fits 22 2048 _ _ (c .before .before .before .before .before .before .before .before .before .before .before .before .before .before .if1 .left) (c .before .before .before .before .before .before .before .before .before .before .before .before .before .if2 .left)) (self-ended g (a .start .now) _ (a .l .now) (o .result .way) (o .result .package) (c .before .match .keys2) (o .ensures .0 g)))
     (λ c. search needs)
     (λ c. search needs)
     (λ c κs. search needs)
@@ -44,7 +35,7 @@ load-package-self-spec =
     (λ c. search needs)
     (λ c.
     let g = settingsOf (c .before .before .before .before .before .before .before .before .before .before .before .before .before .before .before .before .before .before .before .before .before .before .before .before .before .before .args .s .now) in
-    rw (c .next .ensures) (is-done _ (fits _ _ (c .before .before .before .before .before .before .before .before .before .before .before .before .before .before .before .before .before .if1 .left) (c .before .before .before .before .before .before .before .before .before .before .before .before .before .before .before .before .if2 .left)) (self-bare g _ _ (rw (c .before .before .before .enum-told .given .1, c .before .enum-told3 .given .1) at (c .before .before .before .before .before .before .before .before .before .before .before .before .scope .ensures .0 g)))))
+    rw (c .next .ensures) (is-done _ (fits 22 2048 _ _ (c .before .before .before .before .before .before .before .before .before .before .before .before .before .before .before .before .before .if1 .left) (c .before .before .before .before .before .before .before .before .before .before .before .before .before .before .before .before .if2 .left)) (self-bare g _ _ (rw (c .before .before .before .enum-told .given .1, c .before .enum-told3 .given .1) at (c .before .before .before .before .before .before .before .before .before .before .before .before .scope .ensures .0 g)))))
     (λ c κs. search needs)
     (λ c κs. search needs)
     (λ c κs.
@@ -60,4 +51,4 @@ load-package-self-spec =
     let p = c .before .before .before .before .before .before .before .before .before .before .before .before .before .before .before .before .package .given in
     let m = c .before .before .before .before .before .before .before .before .before .before .before .before .before .before .contents .ensures in
     let g = settingsOf (c .before .before .before .before .before .before .before .before .before .before .before .before .before .before .before .before .before .before .before .before .before .before .before .before .before .before .before .before .before .before .before .before .before .before .before .before .before .before .before .before .before .args .s .now) in
-    is-done _ (fits _ _ (c .before .before .before .before .before .before .before .before .before .before .before .before .before .before .before .before .before .before .before .before .before .before .before .before .before .before .before .before .before .before .before .before .if1 .left) (c .before .before .before .before .before .before .before .before .before .before .before .before .before .before .before .before .before .before .before .before .before .before .before .before .before .before .before .before .before .before .before .if2 .left)) (self-scope g _ _ _ (rw (c .before .before .before .before .before .before .before .before .before .before .before .before .before .before .before .before .before .before .enum-told .given .1, p .1) at (o .ensures .0 g)) (rw (c .before .before .before .before .before .before .before .before .before .before .before .before .before .first .ensures, m) at (c .before .before .before .before .before .before .before .before .in-scope .ensures _ (rw (p .1, ← m) at (o .ensures .1)))))))
+    is-done _ (fits 22 2048 _ _ (c .before .before .before .before .before .before .before .before .before .before .before .before .before .before .before .before .before .before .before .before .before .before .before .before .before .before .before .before .before .before .before .before .if1 .left) (c .before .before .before .before .before .before .before .before .before .before .before .before .before .before .before .before .before .before .before .before .before .before .before .before .before .before .before .before .before .before .before .if2 .left)) (self-scope g _ _ _ (rw (c .before .before .before .before .before .before .before .before .before .before .before .before .before .before .before .before .before .before .enum-told .given .1, p .1) at (o .ensures .0 g)) (rw (c .before .before .before .before .before .before .before .before .before .before .before .before .before .first .ensures, m) at (c .before .before .before .before .before .before .before .before .in-scope .ensures _ (rw (p .1, ← m) at (o .ensures .1)))))))

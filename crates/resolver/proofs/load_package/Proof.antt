@@ -1,8 +1,7 @@
 use mathlib.Core.Path.{_∙_}
 use native.Mathlib.Omega.{arith}
 use Rattle.definition.specs.Ask.{_>>_}
-use Rattle.directory.proofs.Rooms.{was-done}
-use Rattle.package_exports.proofs.Fits.{fits}
+use Rattle.directory.proofs.Rooms.{was-done, fits}
 use Rattle.consults.proofs.Ways.{way-passed, way-onward}
 use Rattle.resolver.specs.Routines.{loadPackage}
 use borrow.Author.Needs.{needs}
@@ -24,7 +23,7 @@ load-package-spec =
     (λ c.
     let p = c .before .before .before .before .before .before .before .before .before .before .before .before .before .before .before .before .before .before .before .before .before .before .before .pre in
     let a = c .before .before .before .before .before .before .before .before .before .before .load-package-self in
-    way-passed (a .result .way) _ (was-done (fits _ _ (p .0) (omega (arith, p .1))) (a .ensures)) (c .before .match .keys2))
+    way-passed (a .result .way) _ (was-done (fits 22 2048 _ _ (p .0) (omega (arith, p .1))) (a .ensures)) (c .before .match .keys2))
     (λ c κs. search needs)
     (λ c. search needs)
     (λ c. search needs)
@@ -36,7 +35,7 @@ load-package-spec =
     let p = c .before .before .before .before .before .before .before .before .before .before .before .before .before .before .before .before .before .before .before .before .before .before .before .before .before .before .before .before .before .before .before .before .before .before .before .before .before .before .pre in
     let a = c .before .before .before .before .before .before .before .before .before .before .before .before .before .before .before .before .before .before .before .before .before .before .before .before .before .load-package-self in
     let b = c .before .before .before .before .before .before .before .before .before .before .load-node-modules in
-    way-onward (a .result .way) _ (was-done (fits _ _ (p .0) (omega (arith, p .1))) (a .ensures)) (c .before .before .before .before .before .before .before .before .before .before .before .before .before .before .before .enum-told .given .1) (way-passed (b .result .way) _ (was-done (fits _ _ (omega (arith, p .0, a .kept .1 .1 .1 .1 .1 .1 .1 .1 .0)) (omega (arith, p .1))) (b .ensures)) (c .before .match2 .keys2)))
+    way-onward (a .result .way) _ (was-done (fits 22 2048 _ _ (p .0) (omega (arith, p .1))) (a .ensures)) (c .before .before .before .before .before .before .before .before .before .before .before .before .before .before .before .enum-told .given .1) (way-passed (b .result .way) _ (was-done (fits 22 2048 _ _ (omega (arith, p .0, a .kept .1 .1 .1 .1 .1 .1 .1 .1 .0)) (omega (arith, p .1))) (b .ensures)) (c .before .match2 .keys2)))
     (λ c κs.
     let p = c .before .before .before .before .before .before .before .before .before .before .before .before .before .before .before .before .before .before .before .before .before .before .before .before .before .before .before .before .before .before .before .before .before .before .before .before .before .before .before .before .before .before .pre in
     (omega (arith, p .0, c .before .before .before .before .before .before .before .before .before .before .before .before .before .before .before .before .before .before .before .before .before .before .before .before .before .before .before .before .before .load-package-self .kept .1 .1 .1 .1 .1 .1 .1 .1 .0, c .before .before .before .before .before .before .before .before .before .before .before .before .before .before .load-node-modules .kept .1 .1 .1 .1 .1 .1 .1 .1 .0), p .1))
@@ -48,4 +47,4 @@ load-package-spec =
     let p = c .before .before .before .before .before .before .before .before .before .before .before .before .before .before .before .before .before .before .before .before .before .before .before .before .before .before .before .before .before .before .before .before .before .before .before .before .before .before .before .before .before .before .before .before .before .before .before .before .before .before .before .pre in
     let a = c .before .before .before .before .before .before .before .before .before .before .before .before .before .before .before .before .before .before .before .before .before .before .before .before .before .before .before .before .before .before .before .before .before .before .before .before .before .before .load-package-self in
     let b = c .before .before .before .before .before .before .before .before .before .before .before .before .before .before .before .before .before .before .before .before .before .before .before .load-node-modules in
-    way-onward (a .result .way) _ (was-done (fits _ _ (p .0) (omega (arith, p .1))) (a .ensures)) (c .before .before .before .before .before .before .before .before .before .before .before .before .before .before .before .before .before .before .before .before .before .before .before .before .before .before .before .before .enum-told .given .1) (way-onward (b .result .way) _ (was-done (fits _ _ (omega (arith, p .0, a .kept .1 .1 .1 .1 .1 .1 .1 .1 .0)) (omega (arith, p .1))) (b .ensures)) (c .before .before .before .before .before .before .before .before .before .before .before .before .before .enum-told3 .given .1) (c .before .before .before .before .before .before .before .before .load-climbing .ensures))))
+    way-onward (a .result .way) _ (was-done (fits 22 2048 _ _ (p .0) (omega (arith, p .1))) (a .ensures)) (c .before .before .before .before .before .before .before .before .before .before .before .before .before .before .before .before .before .before .before .before .before .before .before .before .before .before .before .before .enum-told .given .1) (way-onward (b .result .way) _ (was-done (fits 22 2048 _ _ (omega (arith, p .0, a .kept .1 .1 .1 .1 .1 .1 .1 .1 .0)) (omega (arith, p .1))) (b .ensures)) (c .before .before .before .before .before .before .before .before .before .before .before .before .before .enum-told3 .given .1) (c .before .before .before .before .before .before .before .before .load-climbing .ensures))))

@@ -2,13 +2,8 @@ use mathlib.Core.Path.{_∙_, ap}
 use Rattle.json_text.specs.Texts.{orEmpty}
 use Rattle.targets.proofs.Contexts.{text-read}
 use borrow.Author.Needs.{needs}
-use Rattle.package_exports.proofs.key_not_exported.Statement.{statement}
-use Rattle.package_exports.proofs.key_not_exported.Tie as tie
-use Rattle.package_exports.proofs.key_not_exported.Reads as reads
-use Rattle.package_exports.proofs.key_not_exported.Lts as lts
-use Rattle.json_text.proofs.read_text.Reads as read-text-reads
-use Rattle.json_text.proofs.text_at.Reads as text-at-reads
-use Rattle.consults.proofs.finish.Reads as finish-reads
+use Rattle.exports_ending.proofs.key_not_exported.Statement.{statement}
+use Rattle.exports_ending.proofs.key_not_exported.Tie as tie
 
 pub key-not-exported-spec : {M : Type 1} → statement M
 key-not-exported-spec =

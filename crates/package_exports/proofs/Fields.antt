@@ -1,12 +1,12 @@
--- LOAD_PACKAGE_EXPORTS and LOAD_PACKAGE_SELF: an exports field as it is found, resolved and matched. Assumes nothing.
-use mathlib.Core.Path.{_≡_, refl, sym, _∙_, ap, fun-ext}
+-- LOAD_PACKAGE_EXPORTS and LOAD_PACKAGE_SELF: an exports field as it is found and resolved. Assumes nothing.
+use mathlib.Core.Path.{_≡_, refl, sym, _∙_, ap}
 use mathlib.Core.Bool.{Bool, true, false}
-use mathlib.Core.List.{List, [], _∷_, _++_, append-nil}
+use mathlib.Core.List.{List, [], _∷_, _++_}
 use mathlib.Core.Option.{Option, none, some}
-use Prim.Native.Nat.{ℕ, _+_, _-_, _≤_, _<_}
+use Prim.Native.Nat.{ℕ, _+_, _≤_, _<_}
 use native.Mathlib.Omega.{arith}
 use denote.Enum.Declared.{tagOf, declared}
-use lib.ListN.{length, getD, drop, take}
+use lib.ListN.{length, drop, take}
 use Rattle.definition.specs.Text.{Text, text, if_then_else_, startsWith, overwrite}
 use Rattle.definition.specs.Path.{dirs}
 use Rattle.definition.specs.Specifier.{dotSubpath, stripPackageName}
@@ -14,66 +14,28 @@ use Rattle.definition.specs.Json.{Json}
 use Rattle.definition.specs.JsonAt.{getAt}
 use Rattle.laws.specs.JsonAtLaws.{Stands, Finds, finds, finds-none, get-here}
 use Rattle.definition.specs.Exports as exports
-use Rattle.definition.specs.Exports.{Failure, NotFound, Empty, InvalidPackageTarget, PackagePathNotExported, InvalidPackageConfig, InvalidPackageConfigDirectory, JsonError, failureNumber, failureTexts, PACKAGE-EXPORTS-RESOLVE}
-use Rattle.definition.specs.Ask.{Listing, Step, go, stop, Ask, ret, end, ask, read, _>>=_, _>>_}
-use Rattle.definition.specs.Manifest.{Manifest, stopped, failed, Place, endNumber, endTexts, field, orFirst, firstField, fresh, resolvedTo, resolveExports, exportsOf, manifestView, ifText}
-use Rattle.definition.specs.Called.{joined}
+use Rattle.definition.specs.Exports.{PACKAGE-EXPORTS-RESOLVE}
+use Rattle.definition.specs.Ask.{Listing, Step, go, _>>=_}
+use Rattle.definition.specs.Manifest.{Manifest, field, orFirst, firstField, fresh, resolvedTo, resolveExports, exportsOf, manifestView, ifText}
 use Rattle.definition.specs.Settings.{Settings}
-use Rattle.definition.specs.Walk.{Look, perhaps, given, never, notFound, LOAD-AS-FILE, RESOLVE-ESM-MATCH, byExports, own, LOAD-PACKAGE-EXPORTS, Scope, inScope, nearest, LOAD-PACKAGE-SELF}
+use Rattle.definition.specs.Walk.{perhaps, given, never, RESOLVE-ESM-MATCH, byExports, own, LOAD-PACKAGE-EXPORTS, Scope, inScope, nearest, LOAD-PACKAGE-SELF}
 use Rattle.package_json.proofs.Cursor as cursor
 use Rattle.package_json.specs.declared.Cursor.{Cursor}
 use Rattle.package_json.specs.declared.Cursor.the-variants.{At, Nothing}
 use Rattle.package_json.specs.Cursors.{placed}
 use Rattle.exports.specs.Chosen as chosen
-use Rattle.targets.specs.declared.Part.{Part}
-use Rattle.targets.specs.Contexts.{partText}
-use Rattle.targets.proofs.Contexts.{first-text, part-short}
+use Rattle.targets.proofs.Contexts.{first-text}
 use Rattle.consults.specs.declared.Ending.{Ending}
-use Rattle.consults.specs.declared.Mark.{Mark}
 use Rattle.consults.specs.declared.Way.{Way}
 use Rattle.consults.specs.declared.Way.the-variants.{Next, Stopped}
 use Rattle.directory.specs.declared.Package.{Package}
-use Rattle.consults.specs.Tape.{Tape, Done, endingOf, done-ret, done-bind, done-stop}
-use Rattle.consults.specs.Meaning.{tapeOf, stepOf, place, Sees}
-use Rattle.directory.specs.Routines.{Finishes, ifDirectory, scopeOf}
-use Rattle.package_exports.specs.Routines.{foundOf, matchExports}
+use Rattle.consults.specs.Tape.{Tape, Done, done-ret, done-bind, done-stop}
+use Rattle.consults.specs.Meaning.{stepOf, place, Sees}
+use Rattle.directory.specs.Routines.{scopeOf}
+use Rattle.exports_ending.specs.Endings.{foundOf}
+use Rattle.package_exports.specs.Routines.{matchExports}
 use Rattle.consults.proofs.Way as way
-use Rattle.consults.proofs.Steps.{Ends, done-finish}
 use Rattle.directory.proofs.Manifests.{perhaps-none, perhaps-some}
-use Rattle.consults.proofs.Ways.{bind-bind, ended, way-onward}
-
--- THE TEXTS OF AN ERROR
-pub done-failed : {A : Type 0} {L : Listing _} {f : Failure} {n : ℕ} {a b c : Text} → Ends (stopped (failed f)) n a b c → {r : Ending} {before after : Text} → Finishes n a b c r before after → (ns list : List ℕ) (m : Mark) → Done {A = A} L (given (stop (failed f))) (tapeOf before ns list m) (tapeOf after ns list m) (stop r)
-unfolding given
-done-failed h z ns list m = done-finish h _ _ _ (z .ending) (rw (z .texts))
-
--- A PART OF A MANIFEST'S STRING, at the start of a buffer that has room for it
-pub part-first : (m : Text) (p : Part) (d d′ x : Text) (n : ℕ) → 1024 ≤ length d → n ≡ length (partText m p) → d′ ≡ overwrite 0 (partText m p) d → x ≡ take n d′ → x ≡ partText m p
-part-first m p d d′ x n l e f g =
-    g ∙ ap (λ k. take k d′) e ∙ ap (take (length (partText m p))) f ∙ first-text (partText m p) d (omega (arith, part-short m p))
-
--- RESOLVE_ESM_MATCH: a file ended the lookup
-module _ (G : Settings) (spec : Text) (w : Place) {L : Listing Sees} {s s₁ : Tape} (v : Way) (d : Done L (LOAD-AS-FILE G w) s s₁ (stepOf v)) where
-  pub match-file : tagOf (declared way.enum) v ≡ 1 → Done L (never (RESOLVE-ESM-MATCH G spec w)) s s₁ (stepOf v)
-  unfolding never RESOLVE-ESM-MATCH _>>_
-  match-file h = let x = ended v h in rw (x .1) (done-stop _ (done-stop _ (rw (x .1) at d)))
-
-  -- or a directory did, or nothing was found
-  module _ {s₂ : Tape} (u : Way) (e : v ≡ Next) (f : Done L (ifDirectory G w) s₁ s₂ (stepOf u)) where
-    pub match-directory : tagOf (declared way.enum) u ≡ 1 → Done L (never (RESOLVE-ESM-MATCH G spec w)) s s₂ (stepOf u)
-    unfolding never RESOLVE-ESM-MATCH ifDirectory _>>_
-    match-directory h =
-        let x = ended u h in
-        let z : Look ⊥ = end (notFound spec) in
-        let g : Done L (ifDirectory G w >>= λ _. z) s₁ s₂ (stop (x .0)) = done-stop _ (rw (x .1) at f) in
-        rw (x .1) (done-stop _ (way-onward v _ d e (rw bind-bind at g)))
-
-    pub match-none : {s₃ : Tape} {r : Ending} → u ≡ Next → Done {A = ⊥} L (end (notFound spec)) s₂ s₃ (stop r) → Done L (never (RESOLVE-ESM-MATCH G spec w)) s s₃ (stop r)
-    unfolding never RESOLVE-ESM-MATCH ifDirectory _>>_
-    match-none {s₃} {r} i y =
-        let z : Look ⊥ = end (notFound spec) in
-        let g : Done L (ifDirectory G w >>= λ _. z) s₁ s₃ (stop r) = way-onward u _ f i y in
-        done-stop _ (way-onward v _ d e (rw bind-bind at g))
 
 -- THE FIRST EXPORTS FIELD of the settings. A name was looked for
 finds-not : {d : ℕ} {o : Option Json} {p : Option Text} → Finds d o p → p ≡ none → o ≡ none

@@ -1,8 +1,8 @@
 use native.Mathlib.Omega.{arith}
 use borrow.Author.Needs.{needs}
-use Rattle.package_exports.proofs.Matches.{part-first}
-use Rattle.package_exports.proofs.resolve_with_texts.Statement.{statement}
-use Rattle.package_exports.proofs.resolve_with_texts.Tie as tie
+use Rattle.esm_match.proofs.Matches.{part-first}
+use Rattle.esm_match.proofs.resolve_with_texts.Statement.{statement}
+use Rattle.esm_match.proofs.resolve_with_texts.Tie as tie
 
 pub resolve-with-texts-spec : {M : Type 1} → statement M
 resolve-with-texts-spec =

@@ -1,14 +1,9 @@
 use mathlib.Core.Path.{_∙_}
 use Rattle.directory.proofs.Rooms.{was-done, enough}
-use Rattle.package_exports.proofs.Matches.{match-file, match-directory, match-none}
+use Rattle.esm_match.proofs.Matches.{match-file, match-directory, match-none}
 use borrow.Author.Needs.{needs}
-use Rattle.package_exports.proofs.resolve_esm_match.Statement.{statement}
-use Rattle.package_exports.proofs.resolve_esm_match.Tie as tie
-use Rattle.package_exports.proofs.resolve_esm_match.Reads as reads
-use Rattle.package_exports.proofs.resolve_esm_match.Lts as lts
-use Rattle.consults.proofs.not_found.Reads as not-found-reads
-use Rattle.files.proofs.load_as_file.Reads as load-as-file-reads
-use Rattle.directory.proofs.load_if_directory.Reads as load-if-directory-reads
+use Rattle.esm_match.proofs.resolve_esm_match.Statement.{statement}
+use Rattle.esm_match.proofs.resolve_esm_match.Tie as tie
 
 pub resolve-esm-match-spec : {M : Type 1} → statement M
 resolve-esm-match-spec =

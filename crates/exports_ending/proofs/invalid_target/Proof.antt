@@ -3,8 +3,8 @@ use Rattle.json_text.specs.Texts.{orEmpty}
 use Rattle.directory.proofs.Manifests.{manifest-path}
 use Rattle.targets.proofs.Contexts.{text-read}
 use borrow.Author.Needs.{needs}
-use Rattle.package_exports.proofs.invalid_target.Statement.{statement}
-use Rattle.package_exports.proofs.invalid_target.Tie as tie
+use Rattle.exports_ending.proofs.invalid_target.Statement.{statement}
+use Rattle.exports_ending.proofs.invalid_target.Tie as tie
 
 pub invalid-target-spec : {M : Type 1} → statement M
 invalid-target-spec =

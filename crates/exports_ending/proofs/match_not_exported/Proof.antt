@@ -1,11 +1,7 @@
 use Rattle.definition.specs.Exports.{orDot}
 use borrow.Author.Needs.{needs}
-use Rattle.package_exports.proofs.match_not_exported.Statement.{statement}
-use Rattle.package_exports.proofs.match_not_exported.Tie as tie
-use Rattle.package_exports.proofs.match_not_exported.Reads as reads
-use Rattle.package_exports.proofs.match_not_exported.Lts as lts
-use Rattle.consults.proofs.finish.Reads as finish-reads
-use Rattle.text.proofs.part.Reads as part-reads
+use Rattle.exports_ending.proofs.match_not_exported.Statement.{statement}
+use Rattle.exports_ending.proofs.match_not_exported.Tie as tie
 
 pub match-not-exported-spec : {M : Type 1} → statement M
 unfolding orDot
