@@ -14,6 +14,6 @@ matchExports G spec dir subpath j = do
   w ← given (resolveExports G j dir subpath)
   never (RESOLVE-ESM-MATCH G spec w)
 
--- 25 by the work memory, or else 22: a text has more than 2,048 bytes
+-- 25 by the work memory, or else 22: a text has more than 512 bytes
 abbrev pub roomFor : (work text : ℕ) → Option ℕ
-roomFor w n = orLonger 22 2048 n (roomIn w)
+roomFor w n = orLonger 22 512 n (roomIn w)

@@ -111,14 +111,14 @@ fn by_exports(
     m: Mark,
     work: &mut [u8],
 ) -> Out
-    requires { ⌜ (1024 ≤ length (now work)) × (length (now sub) ≤ 2048) × (length (manifestOf (now dir)) ≤ 2048) ⌝ }
+    requires { ⌜ (1024 ≤ length (now work)) × (length (now sub) ≤ 512) × (length (manifestOf (now dir)) ≤ 2048) ⌝ }
     ensures { λ r. ⌜ ((j : Json) → Stands 16 (drop root (now (manifest .entry))) j → Done (seenBy (settingsOf (now (s .entry))) (now (l .entry))) (byExports (settingsOf (now (s .entry))) (now (spec .entry)) (now (dir .entry)) (now (sub .entry)) (manifestView (settingsOf (now (s .entry))) j)) (tapeOf (now (result .entry)) (now (nums .entry)) (now (text .entry)) m) (tapeOf (now (result .exit)) (now (nums .exit)) (now (text .exit)) (r .mark)) (stepOf (r .way))) ⌝ }
 {
     let field = exports_field(manifest, root, s);
     let Cursor::At(at) = field else {
         return consults::next(m);
     };
-    let mut dotted = [0u8; 2049];
+    let mut dotted = [0u8; 513];
     let n = package_name::dot_subpath(sub, &mut dotted);
     resolve_exports(
         l,
@@ -137,7 +137,7 @@ fn by_exports(
 }
 
 // LOAD_PACKAGE_EXPORTS(X, DIR): a directory with no manifest of its own has no exports. It wants 1,024 bytes of work memory, which end as
-// any bytes, and a subpath of at most 2,048 bytes: else it refuses with 25 or 22 and has looked at nothing.
+// any bytes, and a subpath of at most 512 bytes: else it refuses with 25 or 22 and has looked at nothing.
 pub fn load_package_exports(
     l: &[u8],
     s: &[u8],
@@ -155,7 +155,7 @@ pub fn load_package_exports(
     if work.len() < 1024 {
         return consults::refused(25, m);
     }
-    if sub.len() > 2048 {
+    if sub.len() > 512 {
         return consults::refused(22, m);
     }
     let found = directory::own(l, dir, result, nums, text, m);
@@ -205,7 +205,7 @@ fn in_scope(
     m: Mark,
     work: &mut [u8],
 ) -> Out
-    requires { ⌜ (1024 ≤ length (now work)) × (length (now spec) ≤ 2048) × (length (manifestOf (now dir)) ≤ 2048) ⌝ }
+    requires { ⌜ (1024 ≤ length (now work)) × (length (now spec) ≤ 512) × (length (manifestOf (now dir)) ≤ 2048) ⌝ }
     ensures { λ r. ⌜ ((j : Json) → Stands 16 (drop root (now (manifest .entry))) j → Done (seenBy (settingsOf (now (s .entry))) (now (l .entry))) (inScope (settingsOf (now (s .entry))) (now (spec .entry)) (record { dir = now (dir .entry); manifest = manifestView (settingsOf (now (s .entry))) j })) (tapeOf (now (result .entry)) (now (nums .entry)) (now (text .entry)) m) (tapeOf (now (result .exit)) (now (nums .exit)) (now (text .exit)) (r .mark)) (stepOf (r .way))) ⌝ }
 {
     let t = directory::text_field(manifest, root, b"name", work);
@@ -235,7 +235,7 @@ fn in_scope(
 }
 
 // LOAD_PACKAGE_SELF(X, DIR): without a scope it comes back. It refuses as LOAD_PACKAGE_EXPORTS does, with 22 for a specifier that is over
-// 2,048 bytes long.
+// 512 bytes long.
 pub fn load_package_self(
     l: &[u8],
     s: &[u8],
@@ -252,7 +252,7 @@ pub fn load_package_self(
     if work.len() < 1024 {
         return consults::refused(25, m);
     }
-    if spec.len() > 2048 {
+    if spec.len() > 512 {
         return consults::refused(22, m);
     }
     let found = directory::scope(l, start, result, nums, text, m);

@@ -13,9 +13,9 @@ load-package-self-spec =
     tie.close
     (tie.spec
     (λ c κs. search needs)
-    (λ c. rw (c .refused .ensures) (is-refused _ 25 (no-room 22 2048 _ _ (c .before .if1 .taken))))
+    (λ c. rw (c .refused .ensures) (is-refused _ 25 (no-room 22 512 _ _ (c .before .if1 .taken))))
     (λ c κs. search needs)
-    (λ c. rw (c .refused2 .ensures) (is-refused _ 22 (too-long 22 2048 _ _ (c .before .before .if1 .left) (c .before .if2 .taken))))
+    (λ c. rw (c .refused2 .ensures) (is-refused _ 22 (too-long 22 512 _ _ (c .before .before .if1 .left) (c .before .if2 .taken))))
     (λ c κs. search needs)
     (λ c. search needs)
     (λ c. search needs)
@@ -26,7 +26,7 @@ load-package-self-spec =
     let o = c .before .before .before .before .before .before .before .before .before .scope in
     let a = c .before .before .before .before .before .before .before .before .before .before .before .before .before .before .before .before .before .before .before .before .before .before .before .args in
     let g = settingsOf (a .s .now) in
-    is-done _ (fits 22 2048 _ _ (c .before .before .before .before .before .before .before .before .before .before .before .before .before .before .if1 .left) (c .before .before .before .before .before .before .before .before .before .before .before .before .before .if2 .left)) (self-ended g (a .start .now) _ (a .l .now) (o .result .way) (o .result .package) (c .before .match .keys2) (o .ensures .0 g)))
+    is-done _ (fits 22 512 _ _ (c .before .before .before .before .before .before .before .before .before .before .before .before .before .before .if1 .left) (c .before .before .before .before .before .before .before .before .before .before .before .before .before .if2 .left)) (self-ended g (a .start .now) _ (a .l .now) (o .result .way) (o .result .package) (c .before .match .keys2) (o .ensures .0 g)))
     (λ c. search needs)
     (λ c. search needs)
     (λ c κs. search needs)
@@ -35,7 +35,7 @@ load-package-self-spec =
     (λ c. search needs)
     (λ c.
     let g = settingsOf (c .before .before .before .before .before .before .before .before .before .before .before .before .before .before .before .before .before .before .before .before .before .before .before .before .before .before .args .s .now) in
-    rw (c .next .ensures) (is-done _ (fits 22 2048 _ _ (c .before .before .before .before .before .before .before .before .before .before .before .before .before .before .before .before .before .if1 .left) (c .before .before .before .before .before .before .before .before .before .before .before .before .before .before .before .before .if2 .left)) (self-bare g _ _ (rw (c .before .before .before .enum-told .given .1, c .before .enum-told3 .given .1) at (c .before .before .before .before .before .before .before .before .before .before .before .before .scope .ensures .0 g)))))
+    rw (c .next .ensures) (is-done _ (fits 22 512 _ _ (c .before .before .before .before .before .before .before .before .before .before .before .before .before .before .before .before .before .if1 .left) (c .before .before .before .before .before .before .before .before .before .before .before .before .before .before .before .before .if2 .left)) (self-bare g _ _ (rw (c .before .before .before .enum-told .given .1, c .before .enum-told3 .given .1) at (c .before .before .before .before .before .before .before .before .before .before .before .before .scope .ensures .0 g)))))
     (λ c κs. search needs)
     (λ c κs. search needs)
     (λ c κs.
@@ -51,4 +51,4 @@ load-package-self-spec =
     let p = c .before .before .before .before .before .before .before .before .before .before .before .before .before .before .before .before .package .given in
     let m = c .before .before .before .before .before .before .before .before .before .before .before .before .before .before .contents .ensures in
     let g = settingsOf (c .before .before .before .before .before .before .before .before .before .before .before .before .before .before .before .before .before .before .before .before .before .before .before .before .before .before .before .before .before .before .before .before .before .before .before .before .before .before .before .before .before .args .s .now) in
-    is-done _ (fits 22 2048 _ _ (c .before .before .before .before .before .before .before .before .before .before .before .before .before .before .before .before .before .before .before .before .before .before .before .before .before .before .before .before .before .before .before .before .if1 .left) (c .before .before .before .before .before .before .before .before .before .before .before .before .before .before .before .before .before .before .before .before .before .before .before .before .before .before .before .before .before .before .before .if2 .left)) (self-scope g _ _ _ (rw (c .before .before .before .before .before .before .before .before .before .before .before .before .before .before .before .before .before .before .enum-told .given .1, p .1) at (o .ensures .0 g)) (rw (c .before .before .before .before .before .before .before .before .before .before .before .before .before .first .ensures, m) at (c .before .before .before .before .before .before .before .before .in-scope .ensures _ (rw (p .1, ← m) at (o .ensures .1)))))))
+    is-done _ (fits 22 512 _ _ (c .before .before .before .before .before .before .before .before .before .before .before .before .before .before .before .before .before .before .before .before .before .before .before .before .before .before .before .before .before .before .before .before .if1 .left) (c .before .before .before .before .before .before .before .before .before .before .before .before .before .before .before .before .before .before .before .before .before .before .before .before .before .before .before .before .before .before .before .if2 .left)) (self-scope g _ _ _ (rw (c .before .before .before .before .before .before .before .before .before .before .before .before .before .before .before .before .before .before .enum-told .given .1, p .1) at (o .ensures .0 g)) (rw (c .before .before .before .before .before .before .before .before .before .before .before .before .before .first .ensures, m) at (c .before .before .before .before .before .before .before .before .in-scope .ensures _ (rw (p .1, ← m) at (o .ensures .1)))))))

@@ -1,9 +1,7 @@
 use mathlib.Core.Path.{_∙_}
-use native.Mathlib.Omega.{arith}
 use borrow.Author.Tests.{not-true, not-false}
-use Rattle.laws.specs.FitLaws.{normalized-short}
 use Rattle.directory.proofs.Rooms.{was-done, fits}
-use Rattle.resolver.proofs.Lookups.{stays, stays-inside, climbs-out, normalized-here}
+use Rattle.resolver.proofs.Lookups.{stays, stays-inside, climbs-out, normalized-here, climbing-subpath}
 use borrow.Author.Needs.{needs}
 use Rattle.resolver.proofs.load_climbing.Statement.{statement}
 use Rattle.resolver.proofs.load_climbing.Tie as tie
@@ -37,4 +35,4 @@ load-climbing-spec =
     let k = c .before .before .before .before .before .before .before .before .before .before .before .before .before .before .climbs in
     let p = c .before .before .before .before .before .before .before .before .before .before .before .before .before .before .before .first .ensures ∙ normalized-here _ _ _ (c .before .before .before .before .before .before .before .before .before .before .before .before .before .before .before .before .before .before .before .before .before .before .before .before .before .before .before .before .before .before .before .before .pre .1) (c .before .before .before .before .before .before .before .before .before .before .before .before .before .before .before .before .before .before .before .normalized .ensures) in
     let q = c .before .before .before .before .before .before .before .before .before .before .before .before .before .before .before .before .before .before .before .before .before .before .before .before .before .before .before .before .before .before .before .before .pre in
-    climbs-out _ _ (m .result) (k .result) (m .ensures) (not-false (m .result) (c .before .before .before .before .before .before .before .before .before .before .before .before .before .before .before .before .before .before .before .before .before .before .if1 .left)) (rw p at (k .ensures)) (not-false (k .result) (c .before .before .before .before .before .before .before .before .before .before .before .before .before .if2 .left)) (was-done (fits 22 2048 _ _ (q .0) (omega (arith, normalized-short 512 (c .before .before .before .before .before .before .before .before .before .before .before .before .before .before .before .before .before .before .before .before .before .before .before .before .before .before .before .before .before .before .before .before .args .spec .now) (q .1)))) (rw p at (c .before .before .before .before .before .before .before .before .load-node-modules .ensures)))))
+    climbs-out _ _ (m .result) (k .result) (m .ensures) (not-false (m .result) (c .before .before .before .before .before .before .before .before .before .before .before .before .before .before .before .before .before .before .before .before .before .before .if1 .left)) (rw p at (k .ensures)) (not-false (k .result) (c .before .before .before .before .before .before .before .before .before .before .before .before .before .if2 .left)) (was-done (fits 22 512 _ _ (q .0) (climbing-subpath (c .before .before .before .before .before .before .before .before .before .before .before .before .before .before .before .before .before .before .before .before .before .before .before .before .before .before .before .before .before .before .before .before .args .spec .now) (q .1) (k .result) (rw p at (k .ensures)) (not-false (k .result) (c .before .before .before .before .before .before .before .before .before .before .before .before .before .if2 .left)))) (rw p at (c .before .before .before .before .before .before .before .before .load-node-modules .ensures)))))
