@@ -1,9 +1,12 @@
-// How a call ends, as a value: document 01's cases and the refusals, and the number and lengths of each.
+// How a call ends, as a value: document 01's cases, the number and lengths of each, and the refusals behind the lookup.
 use consults::Ending;
+use consults::Mark;
+use listing_check::Checked;
 ghost use mathlib.Core.Path.{_≡_};
 ghost use mathlib.Core.List.{[], _∷_};
 ghost use Rattle.definition.specs.Called.{padded};
 ghost use Rattle.answer.specs.Meaning.{numberOf, lengthsOf, answerBy};
+ghost use Rattle.answer.specs.Room.{Small, smallBy, roomBy, checkedBy};
 
 // How a call ends: document 01's cases, with the length of each text in the result text, or the number of a refusal.
 pub enum Answer {
@@ -76,6 +79,61 @@ pub fn answer_of(ending: Ending) -> Answer
         },
         _ => Answer::Refused(number),
     }
+}
+
+// Whether the texts' lengths and the list's are within the limits.
+fn is_small(ending: Ending, mark: Mark) -> bool
+    ensures { λ r. ⌜ r ≡ smallBy ending mark ⌝ }
+{
+    if ending.first > 6157 {
+        return false;
+    }
+    if ending.second > 6157 - ending.first {
+        return false;
+    }
+    if ending.third > 6157 - ending.first - ending.second {
+        return false;
+    }
+    if mark.count > 18777 {
+        return false;
+    }
+    if mark.size > 38455296 {
+        return false;
+    }
+    true
+}
+
+// The refusals of an ending and a list within the limits: its own, then 20, then 21.
+fn check_room(ending: Ending, mark: Mark, result: usize, nums: usize, text: usize) -> Checked
+    requires { ⌜ Small ending mark ⌝ }
+    ensures { λ r. ⌜ r ≡ roomBy ending mark result nums text ⌝ }
+{
+    let texts = ending.first + ending.second + ending.third;
+    let numbers = 2 + 2 * mark.count;
+    let size = mark.size;
+    if ending.number > 7 {
+        return Checked::Refused(ending.number);
+    }
+    if result < texts {
+        return Checked::Refused(20);
+    }
+    if nums < numbers {
+        return Checked::Refused(21);
+    }
+    if text < size {
+        return Checked::Refused(21);
+    }
+    Checked::Accepted
+}
+
+// The refusals behind the lookup. Lengths that no lookup gives are refused as a result text that no buffer holds.
+pub fn check(ending: Ending, mark: Mark, result: usize, nums: usize, text: usize) -> Checked
+    ensures { λ r. ⌜ r ≡ checkedBy ending mark result nums text ⌝ }
+{
+    if is_small(ending, mark) {
+        return check_room(ending, mark, result, nums, text);
+    }
+    Checked::Refused(20)
 }
 
 fn ending(number: u8, first: usize, second: usize, third: usize) -> Ending

@@ -17,7 +17,7 @@ use Rattle.answer.specs.declared.Answer.{Answer}
 use Rattle.lookup.specs.Meaning.{exported, inThree}
 use Rattle.answer.specs.Meaning.{numberOf, lengthsOf}
 use Rattle.output.specs.Meaning.{leftBy}
-use Rattle.output.specs.Walked.{textLength}
+use Rattle.answer.specs.Room.{textLength}
 use Rattle.lookup.proofs.Walking.{all-passed}
 
 abbrev sum : List ℕ → ℕ

@@ -27,7 +27,8 @@ use Rattle.consults.specs.declared.Mark.{Mark}
 use Rattle.listing_check.specs.declared.Checked.{Checked}
 use Rattle.listing_check.specs.declared.Checked.the-variants.{Accepted}
 use Rattle.output.specs.Meaning.{roomsOf, refusalBy}
-use Rattle.output.specs.Walked.{packedOf, Small, Walked}
+use Rattle.answer.specs.Room.{Small}
+use Rattle.output.specs.Walked.{packedOf, Walked}
 use Rattle.output.proofs.TextLengths.{length-of}
 use Rattle.lookup.proofs.Tapes.{Noted, noted}
 

@@ -1,12 +1,13 @@
 -- What stands behind the lookup, test by test: its own refusal, 20, 21, or the answer.
 use mathlib.Core.Path.{_≡_, refl, sym, _∙_, ap}
-use mathlib.Core.Bool.{true, false, or-true}
+use mathlib.Core.Bool.{Bool, true, false, or-true}
 use mathlib.Core.List.{List}
 use Prim.Native.Nat.{ℕ, _≤_, _<_}
 use native.Mathlib.Omega.{arith}
-use borrow.Author.Tests.{lt-ltb, le-ltb}
+use borrow.Author.Tests.{ltb-true, ltb-false, lt-ltb, le-ltb}
 use lib.Dec.{ltb}
 use lib.ListN.{length}
+use Rattle.definition.specs.Text.{if_then_else_}
 use Rattle.definition.specs.Exports.{failureNumber, NotFound, Empty, InvalidPackageTarget, PackagePathNotExported, InvalidPackageConfig, InvalidPackageConfigDirectory, JsonError}
 use Rattle.definition.specs.Ask.{Consult}
 use Rattle.definition.specs.Manifest.{manifestBeyond, nameTwice, pathTooLong, refusalNumber, failed, refused, End, found, stopped, endNumber, endTexts, isAnswer}
@@ -17,7 +18,9 @@ use Rattle.consults.specs.declared.Mark.{Mark}
 use Rattle.listing_check.specs.declared.Checked.{Checked}
 use Rattle.listing_check.specs.declared.Checked.the-variants.{Accepted, Refused}
 use Rattle.output.specs.Meaning.{refusalBy}
-use Rattle.output.specs.Walked.{textLength, numbersLength, Counted}
+use Rattle.answer.specs.Room.{textLength, numbersLength, Small, checkedBy}
+use Rattle.answer.proofs.Rooms.{small-true}
+use Rattle.output.specs.Walked.{Counted}
 use Rattle.output.proofs.TextLengths.{length-of}
 use Rattle.output.proofs.Filling.{length-numbers}
 
@@ -47,7 +50,7 @@ module _ (m : Rooms) (e : End) (l : List Consult) (x : Ending) (k : Mark) (g : C
   unfolding endingOf
   number-of = ap (λ z. z .number) (g .ending)
 
-  pub own : 7 < x .number → delivered m e l ≡ zeros m (x .number)
+  own : 7 < x .number → delivered m e l ≡ zeros m (x .number)
   unfolding delivered
   own h = let n = number-of in rw (refuses e (omega arith), n)
 
@@ -55,7 +58,7 @@ module _ (m : Rooms) (e : End) (l : List Consult) (x : Ending) (k : Mark) (g : C
     is-answer : isAnswer e ≡ true
     is-answer = let n = number-of in answers e (omega arith)
 
-    pub short-result : m .result < textLength x → delivered m e l ≡ zeros m 20
+    short-result : m .result < textLength x → delivered m e l ≡ zeros m 20
     unfolding delivered
     short-result h = rw (is-answer, lt-ltb (m .result) (length (joined (endTexts e))) (omega (arith, length-of x e (g .ending))))
 
@@ -63,20 +66,41 @@ module _ (m : Rooms) (e : End) (l : List Consult) (x : Ending) (k : Mark) (g : C
       fits-result : ltb (m .result) (length (joined (endTexts e))) ≡ false
       fits-result = le-ltb (m .result) (length (joined (endTexts e))) (omega (arith, length-of x e (g .ending)))
 
-      pub short-numbers : m .numbers < numbersLength k → delivered m e l ≡ zeros m 21
+      short-numbers : m .numbers < numbersLength k → delivered m e l ≡ zeros m 21
       unfolding delivered
       short-numbers h = let c = g .count in rw (is-answer, fits-result, lt-ltb (m .numbers) (length (listNumbers l)) (omega (arith, length-numbers l)))
 
-      pub short-list : m .list < k .size → delivered m e l ≡ zeros m 21
+      short-list : m .list < k .size → delivered m e l ≡ zeros m 21
       unfolding delivered
       short-list h = let c = g .size in rw (is-answer, fits-result, lt-ltb (m .list) (length (joined (paths l))) (omega arith), or-true)
 
-      pub all-fits : numbersLength k ≤ m .numbers → k .size ≤ m .list → delivered m e l ≡ written m e l
+      all-fits : numbersLength k ≤ m .numbers → k .size ≤ m .list → delivered m e l ≡ written m e l
       unfolding delivered
       all-fits h j =
           let c = g .count in
           let s = g .size in
           rw (is-answer, fits-result, le-ltb (m .numbers) (length (listNumbers l)) (omega (arith, length-numbers l)), le-ltb (m .list) (length (joined (paths l))) (omega arith))
+
+  -- the verdict behind the lookup is the definition's
+  pub checked-refusal : (o : Checked) → o ≡ checkedBy x k (m .result) (m .numbers) (m .list) → Small x k → delivered m e l ≡ unlessRefused m (refusalBy o) (written m e l)
+  unfolding unlessRefused
+  checked-refusal o h s = rw (h, small-true x k s) (first (ltb 7 (x .number)) refl)
+    where
+      fourth : (a : x .number ≤ 7) (r : textLength x ≤ m .result) (n : numbersLength k ≤ m .numbers) (u : Bool) → ltb (m .list) (k .size) ≡ u → delivered m e l ≡ unlessRefused m (refusalBy (if u then Refused 21 else Accepted)) (written m e l)
+      fourth a r n true h = short-list a r (ltb-true _ _ h)
+      fourth a r n false h = all-fits a r n (ltb-false _ _ h)
+
+      third : (a : x .number ≤ 7) (r : textLength x ≤ m .result) (u : Bool) → ltb (m .numbers) (numbersLength k) ≡ u → delivered m e l ≡ unlessRefused m (refusalBy (if u then Refused 21 else if ltb (m .list) (k .size) then Refused 21 else Accepted)) (written m e l)
+      third a r true h = short-numbers a r (ltb-true _ _ h)
+      third a r false h = fourth a r (ltb-false _ _ h) (ltb (m .list) (k .size)) refl
+
+      second : (a : x .number ≤ 7) (u : Bool) → ltb (m .result) (textLength x) ≡ u → delivered m e l ≡ unlessRefused m (refusalBy (if u then Refused 20 else if ltb (m .numbers) (numbersLength k) then Refused 21 else if ltb (m .list) (k .size) then Refused 21 else Accepted)) (written m e l)
+      second a true h = short-result a (ltb-true _ _ h)
+      second a false h = third a (ltb-false _ _ h) (ltb (m .numbers) (numbersLength k)) refl
+
+      first : (u : Bool) → ltb 7 (x .number) ≡ u → delivered m e l ≡ unlessRefused m (refusalBy (if u then Refused (x .number) else if ltb (m .result) (textLength x) then Refused 20 else if ltb (m .numbers) (numbersLength k) then Refused 21 else if ltb (m .list) (k .size) then Refused 21 else Accepted)) (written m e l)
+      first true h = own (ltb-true _ _ h)
+      first false h = second (ltb-false _ _ h) (ltb (m .result) (textLength x)) refl
 
 -- a check's verdict, and what was left accordingly
 module _ (m : Rooms) (o : Checked) (out due rest : Left) (d : due ≡ unlessRefused m (refusalBy o) rest) where

@@ -10,7 +10,7 @@ use Rattle.definition.specs.Manifest.{failed, refused, End, found, stopped, end
 use Rattle.definition.specs.Called.{joined}
 use Rattle.consults.specs.Tape.{endingOf}
 use Rattle.consults.specs.declared.Ending.{Ending}
-use Rattle.output.specs.Walked.{textLength}
+use Rattle.answer.specs.Room.{textLength}
 
 one : (a : Text) → length a + 0 + 0 ≡ length (a ++ [])
 one a = omega (arith, length-append a [])

@@ -10,11 +10,8 @@ use Rattle.answer.specs.declared.Answer.{Answer}
 use Rattle.answer.specs.Meaning.{numberOf, lengthsOf}
 
 -- the lent buffers' lengths
-abbrev pub roomsBy : ℕ → ℕ → ℕ → ℕ → Rooms
-roomsBy result numbers list work = record { result = result; numbers = numbers; list = list; work = work }
-
 abbrev pub roomsOf : List ℕ → List ℕ → List ℕ → ℕ → Rooms
-roomsOf result numbers list work = roomsBy (length result) (length numbers) (length list) work
+roomsOf result numbers list work = record { result = length result; numbers = length numbers; list = length list; work = work }
 
 -- an answer, with what stands in the lent buffers
 abbrev pub leftBy : Answer → List ℕ → List ℕ → List ℕ → List ℕ → Left

@@ -2,7 +2,7 @@
 -- reach that far.
 use mathlib.Core.Path.{_≡_}
 use mathlib.Core.List.{List, map}
-use Prim.Native.Nat.{ℕ, _+_, _*_, _≤_}
+use Prim.Native.Nat.{ℕ, _+_, _≤_}
 use lib.ListN.{length, take, drop}
 use Rattle.definition.specs.Ask.{Consult}
 use Rattle.definition.specs.Manifest.{End, endTexts}
@@ -15,19 +15,6 @@ use Rattle.consults.specs.declared.Mark.{Mark}
 -- a consult's length and state in one number
 abbrev pub packedOf : Consult → ℕ
 packedOf c = packed (length (c .path)) (c .state)
-
--- an ending's texts, and the list numbers, have so many bytes and numbers
-abbrev pub textLength : Ending → ℕ
-textLength x = x .first + x .second + x .third
-
-abbrev pub numbersLength : Mark → ℕ
-numbersLength k = 2 + 2 * k .count
-
--- the numbers are small: 01's limits
-pub record Small (x : Ending) (k : Mark) : Type 0 where
-  pub texts : textLength x ≤ 6157
-  pub count : k .count ≤ 18777
-  pub size : k .size ≤ 38455296
 
 pub record Counted (e : End) (l : List Consult) (x : Ending) (k : Mark) : Type 0 where
   pub ending : x ≡ endingOf e
@@ -48,9 +35,3 @@ pub record Walked (e : End) (l : List Consult) (x : Ending) (k : Mark) (r n t : 
   pub result : Begins (joined (endTexts e)) r
   pub numbers : Listed l n
   pub list : Begins (joined (paths l)) t
-
--- the buffers reach that far
-pub record Room (x : Ending) (k : Mark) (r n t : ℕ) : Type 0 where
-  pub result : textLength x ≤ r
-  pub numbers : numbersLength k ≤ n
-  pub list : k .size ≤ t

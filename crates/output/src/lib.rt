@@ -1,18 +1,18 @@
-// What a call leaves in the output buffers: the refusals behind the lookup, the texts and the list of an answer, and zeros.
+// What a call leaves in the output buffers: the texts and the list of an answer, and zeros.
 use answer::Answer;
 use consults::Ending;
 use consults::Mark;
 use listing_check::Checked;
 ghost use mathlib.Core.Path.{_≡_};
-ghost use mathlib.Core.Bool.{true};
 ghost use mathlib.Core.List.{List};
 ghost use Prim.Native.Nat.{ℕ, _+_, _*_, _≤_};
 ghost use lib.ListN.{length, replicate};
 ghost use Rattle.definition.specs.Ask.{Consult};
 ghost use Rattle.definition.specs.Manifest.{End};
-ghost use Rattle.definition.specs.Called.{joined, paths, padded, listNumbers, zeros, written, delivered, unlessRefused};
-ghost use Rattle.output.specs.Meaning.{roomsBy, roomsOf, leftBy, refusalBy, spread};
-ghost use Rattle.output.specs.Walked.{numbersLength, Small, Counted, Listed, Walked, Room};
+ghost use Rattle.definition.specs.Called.{joined, paths, padded, listNumbers, zeros, written, delivered};
+ghost use Rattle.answer.specs.Room.{numbersLength, Small, Room};
+ghost use Rattle.output.specs.Meaning.{roomsOf, leftBy, spread};
+ghost use Rattle.output.specs.Walked.{Listed, Walked};
 
 // Each consult's length and state, packed into one number while the count was not known, get numbers of their own.
 fn spread(nums: &mut [u32], count: usize)
@@ -61,65 +61,6 @@ fn fill(ending: Ending, mark: Mark, result: &mut [u8], nums: &mut [u32], text: &
     answer::answer_of(ending)
 }
 
-// Whether the texts' lengths and the list's are within the limits.
-fn is_small(ending: Ending, mark: Mark) -> bool
-    ensures small { λ r. ⌜ (r ≡ true → Small ending mark) ⌝ }
-    ensures beyond { λ r. ⌜ (Small ending mark → r ≡ true) ⌝ }
-{
-    if ending.first > 6157 {
-        return false;
-    }
-    if ending.second > 6157 - ending.first {
-        return false;
-    }
-    if ending.third > 6157 - ending.first - ending.second {
-        return false;
-    }
-    if mark.count > 18777 {
-        return false;
-    }
-    if mark.size > 38455296 {
-        return false;
-    }
-    true
-}
-
-// The refusals of an ending and a list within the limits: its own, then 20, then 21.
-fn check_room(ending: Ending, mark: Mark, result: usize, nums: usize, text: usize) -> Checked
-    requires { ⌜ Small ending mark ⌝ }
-    ensures refusal { λ r. ⌜ ((e : End) (l : List Consult) (w : ℕ) → Counted e l ending mark → delivered (roomsBy result nums text w) e l ≡ unlessRefused (roomsBy result nums text w) (refusalBy r) (written (roomsBy result nums text w) e l)) ⌝ }
-    ensures room { λ r. ⌜ (r ≡ Checked.Accepted → Room ending mark result nums text) ⌝ }
-{
-    let texts = ending.first + ending.second + ending.third;
-    let numbers = 2 + 2 * mark.count;
-    let size = mark.size;
-    if ending.number > 7 {
-        return Checked::Refused(ending.number);
-    }
-    if result < texts {
-        return Checked::Refused(20);
-    }
-    if nums < numbers {
-        return Checked::Refused(21);
-    }
-    if text < size {
-        return Checked::Refused(21);
-    }
-    Checked::Accepted
-}
-
-// The refusals behind the lookup. Lengths that no lookup gives are refused as a result text that no buffer holds.
-fn check(ending: Ending, mark: Mark, result: usize, nums: usize, text: usize) -> Checked
-    ensures refusal { λ r. ⌜ (Small ending mark → (e : End) (l : List Consult) (w : ℕ) → Counted e l ending mark → delivered (roomsBy result nums text w) e l ≡ unlessRefused (roomsBy result nums text w) (refusalBy r) (written (roomsBy result nums text w) e l)) ⌝ }
-    ensures beyond { λ r. ⌜ ((Small ending mark → ⊥) → r ≡ Checked.Refused 20) ⌝ }
-    ensures room { λ r. ⌜ (r ≡ Checked.Accepted → Small ending mark × Room ending mark result nums text) ⌝ }
-{
-    if is_small(ending, mark) {
-        return check_room(ending, mark, result, nums, text);
-    }
-    Checked::Refused(20)
-}
-
 // Behind the lookup: a refusal, or the answer.
 pub fn deliver(
     ending: Ending,
@@ -131,7 +72,7 @@ pub fn deliver(
     ensures done { λ r. ⌜ (Small ending mark → (e : End) (l : List Consult) (w : ℕ) → Walked e l ending mark (now (result .entry)) (now (nums .entry)) (now (text .entry)) → leftBy r (now (result .exit)) (now (nums .exit)) (now (text .exit)) (replicate w 0) ≡ delivered (roomsOf (now (result .entry)) (now (nums .entry)) (now (text .entry)) w) e l) ⌝ }
     ensures beyond { λ r. ⌜ ((Small ending mark → ⊥) → (w : ℕ) → leftBy r (now (result .exit)) (now (nums .exit)) (now (text .exit)) (replicate w 0) ≡ zeros (roomsOf (now (result .entry)) (now (nums .entry)) (now (text .entry)) w) 20) ⌝ }
 {
-    let checked = check(ending, mark, result.len(), nums.len(), text.len());
+    let checked = answer::check(ending, mark, result.len(), nums.len(), text.len());
     match checked {
         Checked::Refused(n) => refuse(n, result, nums, text),
         Checked::Accepted => fill(ending, mark, result, nums, text),

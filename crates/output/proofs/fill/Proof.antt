@@ -1,5 +1,5 @@
 use borrow.Author.Needs.{needs}
-use Rattle.output.specs.Walked.{textLength}
+use Rattle.answer.specs.Room.{textLength}
 use Rattle.answer.proofs.Endings.{case-of}
 use Rattle.output.proofs.TextLengths.{length-of}
 use Rattle.output.proofs.Filling.{text-done, filled}
