@@ -1,2 +1,3 @@
 mod Seek
 mod Partings
+pub mod Numbers

@@ -47,11 +47,11 @@ fn number(l: &[u8], k: usize) -> usize
     word(byte(l, k), byte(l, k + 1), byte(l, k + 2), byte(l, k + 3))
 }
 
-// The number at k, which may be past the end.
-pub fn read_number(l: &[u8], k: u32) -> usize
-    ensures { λ r. ⌜ (r ≡ number32 (drop k (now (l .entry)))) × (r < 4294967296) ⌝ }
+// The number that some bytes begin with. Of four bytes it costs no test.
+pub fn read_number(t: &[u8]) -> usize
+    ensures { λ r. ⌜ (r ≡ number32 (now (t .entry))) × (r < 4294967296) ⌝ }
 {
-    number(l, k as usize)
+    number(t, 0)
 }
 
 // How many bytes the contents have, by the number that the listing has for them: a directory has none.

@@ -17,8 +17,10 @@ fn locate(l: &[u8], n: usize, i: usize, at: usize) -> Place
     requires { ⌜ Standing (now l) n i at × (i < n) ⌝ }
     ensures { λ r. ⌜ Placed (now (l .entry)) i at r × Standing (now (l .entry)) n (i + 1) (r .next) ⌝ }
 {
-    let c = listing::read_number(l, (8 + 4 * n + 4 * i) as u32);
-    let end = at + listing::read_number(l, (8 + 4 * i) as u32);
+    let j = 8 + 4 * n + 4 * i;
+    let c = listing::read_number(&l[j..j + 4]);
+    let k = 8 + 4 * i;
+    let end = at + listing::read_number(&l[k..k + 4]);
     Place {
         end: end,
         next: end + listing::contents_length(c),
@@ -58,7 +60,7 @@ fn every(l: &[u8], rule: Rule) -> bool
     requires { ⌜ sizesFit (now l) ≡ true ⌝ }
     ensures { λ r. ⌜ r ≡ all (ruleOf rule) (rows (now (l .entry))) ⌝ }
 {
-    let n = listing::read_number(l, 0);
+    let n = listing::read_number(l);
     let mut at = 8 + 8 * n;
     let mut i = 0;
     while i < n {
@@ -141,7 +143,7 @@ fn ordered(l: &[u8]) -> bool
     requires { ⌜ (sizesFit (now l) ≡ true) × (all sized (rows (now l)) ≡ true) ⌝ }
     ensures { λ r. ⌜ r ≡ (firstIsRoot (rows (now (l .entry))) && inOrder (rows (now (l .entry)))) ⌝ }
 {
-    let n = listing::read_number(l, 0);
+    let n = listing::read_number(l);
     let mut start = 8 + 8 * n;
     let p = locate(l, n, 0, start);
     let mut end = p.end;

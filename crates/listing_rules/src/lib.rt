@@ -1,8 +1,9 @@
 // What the check of a lent listing asks of its sizes, of one entry and of one path. Every public function takes any bytes.
 ghost use mathlib.Core.Path.{_≡_};
 ghost use mathlib.Core.Bool.{Bool, true, _&&_};
-ghost use Prim.Native.Nat.{_≤_};
+ghost use Prim.Native.Nat.{_+_, _*_, _≤_};
 ghost use lib.Dec.{ltb};
+ghost use lib.ListN.{length};
 ghost use Rattle.definition.specs.Listing.{entryCount, sizesFit, isManifest, isComponent};
 ghost use Rattle.laws.specs.ListingSteps.{lengthsAt};
 ghost use Rattle.laws.specs.ListingNameLaws.{isName};
@@ -28,14 +29,16 @@ pub fn is_manifest(p: &[u8]) -> bool
 
 // The sum of all lengths.
 fn lengths(l: &[u8], n: usize) -> usize
-    requires { ⌜ (n ≡ entryCount (now l)) × (n ≤ 1024) ⌝ }
+    requires { ⌜ (n ≡ entryCount (now l)) × (n ≤ 1024) × (8 + 8 * n ≤ length (now l)) ⌝ }
     ensures { λ r. ⌜ r ≡ lengthsAt (now (l .entry)) 0 ⌝ }
 {
     let mut sum: usize = 0;
     let mut i = 0;
     while i < n {
-        let k = listing::read_number(l, (8 + 4 * i) as u32);
-        let c = listing::read_number(l, (8 + 4 * n + 4 * i) as u32);
+        let j = 8 + 4 * i;
+        let k = listing::read_number(&l[j..j + 4]);
+        let from = 8 + 4 * n + 4 * i;
+        let c = listing::read_number(&l[from..from + 4]);
         sum += k + listing::contents_length(c);
         i += 1;
     }
@@ -49,14 +52,14 @@ pub fn sizes(l: &[u8]) -> bool
     if l.len() > 65536 {
         return false;
     }
-    let n = listing::read_number(l, 0);
+    let n = listing::read_number(l);
     if n < 1 {
         return false;
     }
     if n > 1024 {
         return false;
     }
-    let t = listing::read_number(l, 4);
+    let t = listing::read_number(text::part(l, 4, 4));
     if l.len() != 8 + 8 * n + t {
         return false;
     }
