@@ -42,7 +42,7 @@ fn load_climbing(
     if !package_name::climbs(normalized) {
         return consults::next(m);
     }
-    node_modules::load_node_modules(l, s, start, normalized, result, nums, text, m, work)
+    modules::load_node_modules(l, s, start, normalized, result, nums, text, m, work)
 }
 
 // LOAD_PACKAGE_SELF, LOAD_NODE_MODULES, and once more under the normalised name.
@@ -65,17 +65,7 @@ fn load_package(
     let Way::Next = way else {
         return out;
     };
-    let out = node_modules::load_node_modules(
-        l,
-        s,
-        start,
-        spec,
-        result,
-        nums,
-        text,
-        out.mark,
-        work,
-    );
+    let out = modules::load_node_modules(l, s, start, spec, result, nums, text, out.mark, work);
     let way = out.way;
     let Way::Next = way else {
         return out;

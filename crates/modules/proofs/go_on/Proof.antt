@@ -1,9 +1,9 @@
 use borrow.Author.Tests.{not-true, not-false}
 use Rattle.directory.proofs.Rooms.{was-done, fits}
-use Rattle.node_modules.proofs.Modules.{exports-loaded}
+use Rattle.modules.proofs.Modules.{exports-loaded}
 use borrow.Author.Needs.{needs}
-use Rattle.node_modules.proofs.go_on.Statement.{statement}
-use Rattle.node_modules.proofs.go_on.Tie as tie
+use Rattle.modules.proofs.go_on.Statement.{statement}
+use Rattle.modules.proofs.go_on.Tie as tie
 
 pub go-on-spec : {M : Type 1} → statement M
 go-on-spec =

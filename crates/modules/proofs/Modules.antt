@@ -21,7 +21,7 @@ use Rattle.consults.specs.declared.Way.{Way}
 use Rattle.consults.specs.declared.Way.the-variants.{Next, Stopped}
 use Rattle.consults.specs.Tape.{Tape, put, Done, done-ret, done-bind, done-stop}
 use Rattle.consults.specs.Meaning.{Sees, consultOf, numbers, stepOf}
-use Rattle.node_modules.specs.Routines.{goingOf, inPackage}
+use Rattle.modules.specs.Routines.{goingOf, inPackage}
 use Rattle.questions.proofs.Questions.{made-long, made-fits, by-state, is-dir, no-dir}
 use Rattle.manifests.proofs.Climbs.{prefix, parent-take}
 use Rattle.consults.proofs.Way

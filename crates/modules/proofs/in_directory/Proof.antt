@@ -1,8 +1,8 @@
 use mathlib.Core.Path.{_∙_}
-use Rattle.node_modules.proofs.Modules.{directory-none, directory-long, modules-none, modules-in}
+use Rattle.modules.proofs.Modules.{directory-none, directory-long, modules-none, modules-in}
 use borrow.Author.Needs.{needs}
-use Rattle.node_modules.proofs.in_directory.Statement.{statement}
-use Rattle.node_modules.proofs.in_directory.Tie as tie
+use Rattle.modules.proofs.in_directory.Statement.{statement}
+use Rattle.modules.proofs.in_directory.Tie as tie
 
 pub in-directory-spec : {M : Type 1} → statement M
 in-directory-spec =

@@ -1,10 +1,10 @@
 use mathlib.Core.Path.{refl, sym, _∙_}
 use borrow.Author.Tests.{not-true, not-false}
 use Rattle.questions.proofs.Questions.{done-isDir}
-use Rattle.node_modules.proofs.Modules.{subpath-left, unscoped, scoped}
+use Rattle.modules.proofs.Modules.{subpath-left, unscoped, scoped}
 use borrow.Author.Needs.{needs}
-use Rattle.node_modules.proofs.without_directory.Statement.{statement}
-use Rattle.node_modules.proofs.without_directory.Tie as tie
+use Rattle.modules.proofs.without_directory.Statement.{statement}
+use Rattle.modules.proofs.without_directory.Tie as tie
 
 pub without-directory-spec : {M : Type 1} → statement M
 without-directory-spec =

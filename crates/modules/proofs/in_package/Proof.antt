@@ -2,10 +2,10 @@ use mathlib.Core.Path.{_∙_}
 use native.Mathlib.Omega.{arith}
 use borrow.Author.Tests.{not-true, not-false}
 use Rattle.directory.proofs.Rooms.{was-done, enough}
-use Rattle.node_modules.proofs.Modules.{package-ended, package-past, package-on}
+use Rattle.modules.proofs.Modules.{package-ended, package-past, package-on}
 use borrow.Author.Needs.{needs}
-use Rattle.node_modules.proofs.in_package.Statement.{statement}
-use Rattle.node_modules.proofs.in_package.Tie as tie
+use Rattle.modules.proofs.in_package.Statement.{statement}
+use Rattle.modules.proofs.in_package.Tie as tie
 
 pub in-package-spec : {M : Type 1} → statement M
 in-package-spec =

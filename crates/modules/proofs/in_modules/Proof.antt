@@ -1,7 +1,7 @@
-use Rattle.node_modules.proofs.Modules.{modules-long, modules-there}
+use Rattle.modules.proofs.Modules.{modules-long, modules-there}
 use borrow.Author.Needs.{needs}
-use Rattle.node_modules.proofs.in_modules.Statement.{statement}
-use Rattle.node_modules.proofs.in_modules.Tie as tie
+use Rattle.modules.proofs.in_modules.Statement.{statement}
+use Rattle.modules.proofs.in_modules.Tie as tie
 
 pub in-modules-spec : {M : Type 1} → statement M
 in-modules-spec =

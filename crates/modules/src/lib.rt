@@ -17,7 +17,7 @@ ghost use Rattle.consults.specs.Tape.{Done};
 ghost use Rattle.consults.specs.Meaning.{tapeOf, stepOf};
 ghost use Rattle.directory.specs.Refusals.{DoneUnless};
 ghost use Rattle.package_exports.specs.Routines.{roomFor};
-ghost use Rattle.node_modules.specs.Routines.{goingOf, inPackage};
+ghost use Rattle.modules.specs.Routines.{goingOf, inPackage};
 
 // Whether a routine came back, and what with.
 pub struct Went {
