@@ -18,6 +18,7 @@ pub mod FoldLaws
 pub mod ChosenKeyLaws
 pub mod ChosenKey
 pub mod ExportsOrderLaws
+pub mod AppliedKey
 pub mod Local
 pub mod JsonLocal
 pub mod JsonEndLaws

@@ -4,14 +4,14 @@ use mathlib.Core.Path.{_≡_}
 use mathlib.Core.Logic.{_↔_, _⊎_}
 use mathlib.Core.Bool.{true, false}
 use mathlib.Core.List.{List, [], _∷_, map, List·Memᴰ, List·Permᴰ}
-use mathlib.Core.Option.{none, some}
-use Prim.Native.Nat.{ℕ, _≤_}
+use mathlib.Core.Option.{Option, none, some}
+use Prim.Native.Nat.{ℕ, _≤_, Ordering·gt}
 use lib.ListN.{length}
-use Rattle.definition.specs.Text.{Text, text, all}
+use Rattle.definition.specs.Text.{Text, text, endsWith, all}
 use Rattle.definition.specs.Listing.{accepted, entryAt, isDirectoryOf}
 use Rattle.definition.specs.Settings.{Settings, settingsOf, passes24}
 use Rattle.definition.specs.Json.{Json, obj, Members, member, got, beyond, twice, fault, parse}
-use Rattle.definition.specs.Exports.{Entry, best, Context, nothing, PACKAGE-EXPORTS-RESOLVE}
+use Rattle.definition.specs.Exports.{Entry, Context, nothing, PATTERN-KEY-COMPARE, patternMatch, PACKAGE-TARGET-RESOLVE, literal, chosenKey, PACKAGE-IMPORTS-EXPORTS-RESOLVE, PACKAGE-EXPORTS-RESOLVE}
 use Rattle.definition.specs.Ask.{Consult, go}
 use Rattle.definition.specs.Manifest.{found, isAnswer, Place, resolveExports}
 use Rattle.definition.specs.Walk.{lookup}
@@ -26,7 +26,8 @@ use Rattle.laws.specs.DemandThree.{questionOf, Demand3, demand-3, short-
 use Rattle.laws.specs.Laid.{RootLaid, root-laid, MemberLaid, member-laid, same-manifest}
 use Rattle.definition.specs.Reordered.{Piece}
 use Rattle.laws.specs.ChosenKeyLaws.{Functional}
-use Rattle.laws.specs.ChosenKey.{Matches, Chosen, chosen, none-matches, none-chosen, same-in-every-order}
+use Rattle.laws.specs.ChosenKey.{Matches}
+use Rattle.laws.specs.AppliedKey.{IsKey, NoneMatches, chosen-matches, chosen-preferred, same-key, none-chosen-exactly, Chooses, one-choice, chosen-target, literal-target, no-target}
 use Rattle.laws.specs.FoundFile.{FoundIn, found-is-file}
 use Rattle.laws.specs.CallEnds.{Ended, Filled, called-whole, Reached, refused-with}
 use Rattle.laws.specs.WalkBounds.{Asks, Sought, AllFit, asks-bounded, all-fit, never-20}
@@ -106,19 +107,55 @@ where-manifests-are-sought = asks-bounded
 
 -- 4. THE CHOSEN KEY -----------------------------------------------------------------------------------------------------------------------
 
--- In a map with distinct keys: the chosen key matches ("matches" written without the search), and comes before every other that matches; none is
--- chosen exactly if none matches; and the same entry is chosen in every order of the map
-pub chosen-key : (matchKey : Text) (es : List Entry) (distinct : Functional es) (e : Entry) → best matchKey none es ≡ some e → Chosen matchKey es distinct e
-chosen-key = chosen
+-- `chosenKey` is the key of the member that PACKAGE_IMPORTS_EXPORTS_RESOLVE resolves. `Matches` says without a search which subpaths a key
+-- stands for. Take a map with distinct keys (`Functional`: a key leads to one member), and a subpath that is no key of it literally.
 
-pub no-key-chosen : (matchKey : Text) (es : List Entry) → Functional es → best matchKey none es ≡ none → (f : Entry) → List·Memᴰ f es → Matches matchKey (f .key) → ⊥
-no-key-chosen = none-matches
+-- First: the chosen key is one of the map's, and matches the subpath
+pub the-chosen-key-matches : (subpath : Text) (map : List Entry) → Functional map → literal subpath map ≡ none
+    → (k : Text) → chosenKey subpath map ≡ some k → IsKey k map × Matches subpath k
+the-chosen-key-matches = chosen-matches
 
-pub no-key-matches : (matchKey : Text) (es : List Entry) → Functional es → ((f : Entry) → List·Memᴰ f es → Matches matchKey (f .key) → ⊥) → best matchKey none es ≡ none
-no-key-matches = none-chosen
+-- Second: it is preferred to every other key that matches. PATTERN_KEY_COMPARE puts each of them behind it
+pub the-chosen-key-is-preferred : (subpath : Text) (map : List Entry) → Functional map → literal subpath map ≡ none
+    → (k : Text) → chosenKey subpath map ≡ some k
+    → (f : Text) → IsKey f map → Matches subpath f → (f ≡ k → ⊥) → PATTERN-KEY-COMPARE f k ≡ Ordering·gt
+the-chosen-key-is-preferred = chosen-preferred
 
-pub key-in-every-order : (matchKey : Text) (es : List Entry) → Functional es → {fs : List Entry} → List·Permᴰ es fs → best matchKey none es ≡ best matchKey none fs
-key-in-every-order = same-in-every-order
+-- Third: the same key is chosen in every order of the map, and so it is where the subpath is a literal key
+pub the-same-key-in-every-order : (subpath : Text) (map : List Entry) → Functional map → {other : List Entry} → List·Permᴰ map other
+    → chosenKey subpath map ≡ chosenKey subpath other
+the-same-key-in-every-order = same-key
+
+-- Fourth: none is chosen exactly if no key matches, or the subpath ends in "/"
+pub no-key-is-chosen : (subpath : Text) (map : List Entry) → Functional map → literal subpath map ≡ none
+    → chosenKey subpath map ≡ none ↔ (NoneMatches subpath map ⊎ (endsWith (text "/") subpath ≡ true))
+no-key-is-chosen = none-chosen-exactly
+
+-- The four fix the key: whatever meets the first, the second and the fourth (and so the third) chooses as the lookup does
+pub the-four-fix-the-key : (subpath : Text) (map : List Entry) → Functional map → literal subpath map ≡ none
+    → (choice : Option Text) → Chooses subpath map choice → choice ≡ chosenKey subpath map
+the-four-fix-the-key = one-choice
+
+-- The target that is resolved is that of the chosen key, with the part of the subpath that the key matched
+pub the-target-of-the-chosen-key : (url : Text) (conditions : List Text) (subpath : Text) (map : List Entry) (c : Context)
+    → Functional map → literal subpath map ≡ none → (k : Text) → chosenKey subpath map ≡ some k → (e : Entry) → List·Memᴰ e map → e .key ≡ k
+    → PACKAGE-IMPORTS-EXPORTS-RESOLVE url conditions subpath map c
+    ≡ PACKAGE-TARGET-RESOLVE (record { packageURL = url; key = k; matched = patternMatch subpath k; conditions = conditions }) (e .target) c
+the-target-of-the-chosen-key = chosen-target
+
+-- a literal key is chosen before every other, and its target is resolved as it stands
+pub the-target-of-a-literal-key : (url : Text) (conditions : List Text) (subpath : Text) (map : List Entry) (c : Context) (target : Json)
+    → endsWith (text "/") subpath ≡ false → literal subpath map ≡ some target
+    → (chosenKey subpath map ≡ some subpath)
+    × (PACKAGE-IMPORTS-EXPORTS-RESOLVE url conditions subpath map c
+    ≡ PACKAGE-TARGET-RESOLVE (record { packageURL = url; key = subpath; matched = none; conditions = conditions }) target c)
+the-target-of-a-literal-key = literal-target
+
+-- where no key is chosen, nothing is resolved
+pub nothing-without-a-key : (url : Text) (conditions : List Text) (subpath : Text) (map : List Entry) (c : Context)
+    → chosenKey subpath map ≡ none
+    → PACKAGE-IMPORTS-EXPORTS-RESOLVE url conditions subpath map c ≡ record { context = c; outcome = nothing }
+nothing-without-a-key = no-target
 
 -- 5. EVERY CALL ---------------------------------------------------------------------------------------------------------------------------
 
