@@ -19,7 +19,7 @@ use Rattle.definition.specs.AnswersPrinted.{tree, settings, printed-comp
 limited : ℕ → ℕ → ℕ × ℕ
 limited limit result =
     let left = called (record { listing = tree; settings = settings; start = text "/p"; specifier = text "mat/steel"; limit = limit })
-      (record { result = result; numbers = 20; list = 160; work = 32768 })
+    (record { result = result; numbers = 20; list = 160; work = 32768 })
     in
     (left .number, left .consults)
 
