@@ -11,31 +11,35 @@ use lib.Dec.{eqb, leb}
 use Rattle.definition.specs.Text.{Text, equal, smaller}
 use Rattle.definition.specs.Listing.{noEntry, entryCount, number32, contentsLength, placeAt, directoryMark}
 use Rattle.laws.specs.TextLaws.{equal-true}
-use Rattle.laws.specs.ListingSteps.{part, pathLengthAt, contentsMarkAt, match-inside}
+use Rattle.laws.specs.ListingSteps.{part, pathLengthAt, contentsMarkAt, number-at, match-inside}
 use Rattle.laws.specs.SearchLaws.{viewed, InBytes, found-viewed, Stopping, Missing, stop-same, stop-past, stop-below, missing-past, missing-other, smaller-take}
 use Rattle.listing.specs.Meaning.{seen, Inside, placeOf, Searched, Reached}
 use Rattle.listing.specs.declared.Found.{Found}
 use Rattle.listing.specs.declared.Found.the-variants.{Absent, Directory, File}
 
--- the text from `at` to e, as long as p, by its last byte
-module _ (l : List ℕ) (at e : ℕ) (p : Text) (n : e - at ≡ length p) (h : e ≤ length l) where
-  pub match-empty : e ≡ at → (leb e (length l) && equal (part l at e) p) ≡ true
-  unfolding equal
-  match-empty z = match-inside l at e p h ∙ go p (omega arith)
-    where
-      go : (p : Text) → length p ≡ 0 → equal (part l at e) p ≡ true
-      go [] u = let d : e - at ≡ 0 = omega arith in rw d
-      go (x ∷ p) u = let d : ⊥ = omega arith in absurd d
+-- the text from `at` to e, by its last eight bytes
+module _ (l : List ℕ) (at e : ℕ) (p : Text) (h : e ≤ length l) (u : at + 8 ≤ e) where
+  byte-in : (i : ℕ) → i < e - at → getD (part l at e) i 0 ≡ getD l (at + i) 0
+  byte-in i v = getD-take (e - at) (drop at l) i 0 v ∙ getD-drop at l i 0
 
-  pub match-last : at < e → (getD l (e - 1) 0 ≡ getD p (e - at - 1) 0 → ⊥) → (leb e (length l) && equal (part l at e) p) ≡ false
-  match-last u f = match-inside l at e p h ∙ go (equal (part l at e) p) refl
+  number-in : (k m : ℕ) → m ≡ at + k → k + 4 ≤ e - at → number32 (drop k (part l at e)) ≡ number32 (drop m l)
+  number-in k m q v =
+      let a : getD (part l at e) k 0 ≡ getD l m 0 = byte-in k (omega arith) ∙ ap (λ (n : ℕ). getD l n 0) (sym q) in
+      let b : getD (part l at e) (k + 1) 0 ≡ getD l (m + 1) 0 = byte-in (k + 1) (omega arith) ∙ ap (λ (n : ℕ). getD l n 0) (omega arith) in
+      let c : getD (part l at e) (k + 2) 0 ≡ getD l (m + 2) 0 = byte-in (k + 2) (omega arith) ∙ ap (λ (n : ℕ). getD l n 0) (omega arith) in
+      let d : getD (part l at e) (k + 3) 0 ≡ getD l (m + 3) 0 = byte-in (k + 3) (omega arith) ∙ ap (λ (n : ℕ). getD l n 0) (omega arith) in
+      omega (arith, number-at (part l at e) k, number-at l m, a, b, c, d)
+
+  pub match-tail : (number32 (drop (e - 8) l) + 4294967296 * number32 (drop (e - 8 + 4) l) ≡ number32 (drop (e - at - 8) p) + 4294967296 * number32 (drop (e - at - 8 + 4) p) → ⊥)
+      → (leb e (length l) && equal (part l at e) p) ≡ false
+  match-tail f = match-inside l at e p h ∙ go (equal (part l at e) p) refl
     where
-      ends : getD (part l at e) (e - at - 1) 0 ≡ getD l (e - 1) 0
-      ends = let d : at + (e - at - 1) ≡ e - 1 = omega arith in getD-take (e - at) (drop at l) (e - at - 1) 0 (omega arith) ∙ getD-drop at l (e - at - 1) 0 ∙ ap (λ (k : ℕ). getD l k 0) d
+      same : equal (part l at e) p ≡ true → (k m : ℕ) → m ≡ at + k → k + 4 ≤ e - at → number32 (drop m l) ≡ number32 (drop k p)
+      same q k m w v = sym (number-in k m w v) ∙ ap (λ t. number32 (drop k t)) (equal-true _ _ q)
 
       go : (b : Bool) → equal (part l at e) p ≡ b → equal (part l at e) p ≡ false
       go false q = q
-      go true q = absurd (f (sym ends ∙ ap (λ t. getD t (e - at - 1) 0) (equal-true _ _ q)))
+      go true q = absurd (f (omega (arith, same q (e - at - 8) (e - 8) (omega arith) (omega arith), same q (e - at - 8 + 4) (e - 8 + 4) (omega arith) (omega arith))))
 
 -- the path has k bytes from `at` on
 module _ (l : List ℕ) (p : Text) (n i at k : ℕ) (r : Reached l n i at) (h : i < n) (x : k ≡ number32 (drop (8 + 4 * i) l)) where

@@ -33,6 +33,14 @@ fn number_at(l: &[u8], k: usize) -> usize
     word(l[k], l[k + 1], l[k + 2], l[k + 3])
 }
 
+// Eight bytes at k as a number, the first the lowest, as the machine reads them: enough to tell whether they are equal.
+fn low(s: &[u8], k: usize) -> usize
+    requires { ⌜ k + 8 ≤ length (now s) ⌝ }
+    ensures { λ r. ⌜ r ≡ number32 (drop k (now (s .entry))) + 4294967296 * number32 (drop (k + 4) (now (s .entry))) ⌝ }
+{
+    number_at(s, k) + 4294967296 * number_at(s, k + 4)
+}
+
 fn byte(l: &[u8], i: usize) -> u8
     ensures { λ r. ⌜ r ≡ getD (now (l .entry)) i 0 ⌝ }
 {
@@ -127,7 +135,7 @@ fn same(a: &[u8], b: &[u8]) -> bool
     text::equal(&a[k..], &b[k..])
 }
 
-// The lengths are compared before any byte, and the last bytes before the others: paths of a listing share long beginnings.
+// The lengths are compared before any byte, and the last eight bytes before the others: paths of a listing share long beginnings.
 fn matches(l: &[u8], at: usize, end: usize, path: &[u8]) -> bool
     requires { ⌜ at ≤ end ⌝ }
     ensures { λ r. ⌜ r ≡ (leb end (length (now (l .entry))) && equal (part (now (l .entry)) at end) (now (path .entry))) ⌝ }
@@ -138,11 +146,10 @@ fn matches(l: &[u8], at: usize, end: usize, path: &[u8]) -> bool
     if end > l.len() {
         return false;
     }
-    if end == at {
-        return true;
-    }
-    if l[end - 1] != path[end - at - 1] {
-        return false;
+    if end - at >= 8 {
+        if low(l, end - 8) != low(path, end - at - 8) {
+            return false;
+        }
     }
     same(&l[at..end], path)
 }
@@ -296,14 +303,6 @@ fn eight(s: &[u8], k: usize) -> usize
 {
     high(s[k], s[k + 1], s[k + 2], s[k + 3]) * 4294967296
         + high(s[k + 4], s[k + 5], s[k + 6], s[k + 7])
-}
-
-// Eight bytes at k as a number, the first the lowest, as the machine reads them: enough to tell whether they are equal.
-fn low(s: &[u8], k: usize) -> usize
-    requires { ⌜ k + 8 ≤ length (now s) ⌝ }
-    ensures { λ r. ⌜ r ≡ number32 (drop k (now (s .entry))) + 4294967296 * number32 (drop (k + 4) (now (s .entry))) ⌝ }
-{
-    number_at(s, k) + 4294967296 * number_at(s, k + 4)
 }
 
 // The first 32 bytes of the path that is sought, eight in a number; 0 where it has not so many. They are read once for all entries.
