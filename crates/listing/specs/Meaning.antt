@@ -64,23 +64,19 @@ abbrev pub highFirst : ℕ → ℕ → List ℕ → ℕ
 highFirst zero a s = a
 highFirst (suc n) a s = highFirst n (a * 256 + getD s 0 0) (drop 1 s)
 
--- a text's eight bytes at k as a number, the first the highest; 0 where it has not so many
-abbrev pub Word : List ℕ → ℕ → ℕ → Type 0
-Word q k w = (k + 8 ≤ length q → w ≡ highFirst 8 0 (drop k q)) × (0 < w → k + 8 ≤ length q)
-
--- the same, the first the lowest; no matter what where it has not so many
+-- a text's eight bytes at k as a number, the first the lowest; no matter what where it has not so many
 abbrev pub LowWord : List ℕ → ℕ → ℕ → Type 0
 LowWord q k w = k + 8 ≤ length q → w ≡ number32 (drop k q) + 4294967296 * number32 (drop (k + 4) q)
 
--- the first 32 bytes of a text, eight in a number
+-- the first 32 bytes of a text, eight in a number; what is missing counts as zeros
 pub record WordsOf (q : List ℕ) (w : Words) : Type 0 where
   pub bytes : (i : ℕ) → getD q i 0 < 256
   pub isStart : LowWord q 0 (w .start)
   pub isNext : LowWord q 8 (w .next)
-  pub first : Word q 0 (w .first)
-  pub second : Word q 8 (w .second)
-  pub third : Word q 16 (w .third)
-  pub fourth : Word q 24 (w .fourth)
+  pub first : w .first ≡ highFirst 8 0 (drop 0 q)
+  pub second : w .second ≡ highFirst 8 0 (drop 8 q)
+  pub third : w .third ≡ highFirst 8 0 (drop 16 q)
+  pub fourth : w .fourth ≡ highFirst 8 0 (drop 24 q)
 
 -- how many bytes both texts begin with
 unfoldable pub sharedLength : Text → Text → ℕ

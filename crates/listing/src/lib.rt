@@ -11,7 +11,7 @@ ghost use Rattle.definition.specs.Ask.{asked};
 ghost use Rattle.laws.specs.ListingSteps.{part};
 ghost use Rattle.laws.specs.ListingOrder.{Shared};
 ghost use Rattle.laws.specs.SearchLaws.{Stopping, Missing};
-ghost use Rattle.listing.specs.Meaning.{Searched, placeOf, Attempted, Placed, Reached, Word, LowWord, WordsOf, highFirst, partingOf};
+ghost use Rattle.listing.specs.Meaning.{Searched, placeOf, Attempted, Placed, Reached, LowWord, WordsOf, highFirst, partingOf};
 
 fn wide(x: u8) -> usize
     ensures { λ r. ⌜ (r ≡ x) × (r < 256) ⌝ }
@@ -305,7 +305,8 @@ fn eight(s: &[u8], k: usize) -> usize
         + high(s[k + 4], s[k + 5], s[k + 6], s[k + 7])
 }
 
-// The first 32 bytes of the path that is sought, eight in a number; 0 where it has not so many. They are read once for all entries.
+// The first 32 bytes of the path that is sought, eight in a number, read once for all entries. What is missing counts as zeros, and below
+// these is no byte.
 struct Words {
     start: usize,
     next: usize,
@@ -315,11 +316,23 @@ struct Words {
     fourth: usize,
 }
 
-fn eight_or_zero(q: &[u8], k: usize) -> usize
+fn eight_or_less(q: &[u8], k: usize) -> usize
     requires { ⌜ k < 1024 ⌝ }
-    ensures { λ r. ⌜ Word (now (q .entry)) k r ⌝ }
+    ensures { λ r. ⌜ r ≡ highFirst 8 0 (drop k (now (q .entry))) ⌝ }
 {
-    if k + 8 <= q.len() { eight(q, k) } else { 0 }
+    if k + 8 <= q.len() {
+        return eight(q, k);
+    }
+    if k >= q.len() {
+        return 0;
+    }
+    high(byte(q, k), byte(q, k + 1), byte(q, k + 2), byte(q, k + 3)) * 4294967296
+        + high(
+            byte(q, k + 4),
+            byte(q, k + 5),
+            byte(q, k + 6),
+            byte(q, k + 7),
+        )
 }
 
 fn low_or_zero(q: &[u8], k: usize) -> usize
@@ -335,14 +348,14 @@ fn words_of(q: &[u8]) -> Words
     Words {
         start: low_or_zero(q, 0),
         next: low_or_zero(q, 8),
-        first: eight_or_zero(q, 0),
-        second: eight_or_zero(q, 8),
-        third: eight_or_zero(q, 16),
-        fourth: eight_or_zero(q, 24),
+        first: eight_or_less(q, 0),
+        second: eight_or_less(q, 8),
+        third: eight_or_less(q, 16),
+        fourth: eight_or_less(q, 24),
     }
 }
 
-// Whether 32 bytes show that a text is below the one of those words; false says nothing.
+// Whether its first 32 bytes show that a text is below the one of those words; false says nothing.
 fn surely_below(p: &[u8], w: Words) -> bool
     requires { ⌜ 32 ≤ length (now p) ⌝ }
     ensures { λ r. ⌜ (r ≡ true → (q : List ℕ) → WordsOf q w → smaller (now (p .entry)) q ≡ true) ⌝ }
