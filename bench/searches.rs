@@ -135,7 +135,7 @@ fn any_order() {
             }
             path
         };
-        let paths: Vec<Vec<u8>> = (0..14).map(|_| path()).collect();
+        let paths: Vec<Vec<u8>> = (0..90).map(|_| path()).collect();
         let sought: Vec<Vec<u8>> = (0..6).map(|_| path()).collect();
         let mut rows: Vec<Row> = paths.into_iter().map(|path| Row { path, contents: None }).collect();
         for row in &mut rows {
@@ -144,7 +144,7 @@ fn any_order() {
         if next(2) == 0 {
             rows.sort_by(|a, b| a.path.cmp(&b.path));
         }
-        rows.truncate(next(15));
+        rows.truncate(next(91));
         let listing = lent::lay(&rows);
         for path in &sought {
             assert_eq!(defined(&rows, path), after(&listing, path), "{listing:?} {path:?}");
