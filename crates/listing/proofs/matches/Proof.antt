@@ -1,3 +1,4 @@
+-- Texts of other lengths or other last bytes are not equal.
 use mathlib.Core.Path.{sym, _∙_}
 use native.Mathlib.Omega.{arith}
 use Rattle.laws.specs.ListingSteps.{match-long, match-beyond, match-inside}
@@ -5,80 +6,98 @@ use Rattle.listing.proofs.Seek.{match-tail}
 use borrow.Author.Needs.{needs}
 use Rattle.listing.proofs.matches.Statement.{statement}
 use Rattle.listing.proofs.matches.Tie as tie
-use Rattle.listing.proofs.matches.Reads as reads
-use Rattle.listing.proofs.matches.Lts as lts
-use Rattle.listing.proofs.low.Reads as low-reads
-use Rattle.listing.proofs.same.Reads as same-reads
 
--- Texts of other lengths or other last bytes are not equal.
+-- Steps back from one place to an earlier one, each of which several answers take.
+abbrev start-of-if2-left : tie.Else2 → tie.Start
+start-of-if2-left p = p .before .before .before .before
 
--- src/lib.rt:143:8
 sub-if1 : tie.Need-sub-if1
 sub-if1 c = search needs
 
--- src/lib.rt:144:9
+-- at: if1 taken
 returns : tie.Need-returns
 returns c =
-    let a = c .before .before .before .args in
-    sym (match-long (a .l .now) (a .at) (a .end) (a .path .now) (c .before .before .before .pre) (λ z. omega (arith, z, c .if1 .taken)))
+    let a = at-start .args in
+    sym (match-long (a .l .now) (a .at) (a .end) (a .path .now) (at-start .pre) (λ z. omega (arith, z, c .if1 .taken)))
+  where
+    at-start : tie.Start
+    at-start = c .before .before .before
 
--- src/lib.rt:147:9
+-- at: if1 left → if2 taken
 returns-2 : tie.Need-returns-2
 returns-2 c =
-    let a = c .before .before .before .before .args in
+    let at-start : tie.Start = c .before .before .before .before in
+    let a = at-start .args in
     sym (match-beyond (a .l .now) (a .at) (a .end) (a .path .now) (c .if2 .taken))
 
--- src/lib.rt:149:8
+-- at: if1 left → if2 left
 sub-if3 : tie.Need-sub-if3
 sub-if3 c = search needs
 
--- src/lib.rt:150:19
+-- at: if1 left → if2 left → if3 taken
 sub-low : tie.Need-sub-low
 sub-low c = search needs
 
--- src/lib.rt:150:12
+-- at: if1 left → if2 left → if3 taken
 low-requires : tie.Need-low-requires
 low-requires c κs = search needs
 
--- src/lib.rt:150:41
+-- at: if1 left → if2 left → if3 taken → low
 sub-low-2 : tie.Need-sub-low-2
 sub-low-2 c = search needs
 
--- src/lib.rt:150:41
+-- at: if1 left → if2 left → if3 taken → low
 sub-low-3 : tie.Need-sub-low-3
 sub-low-3 c = search needs
 
--- src/lib.rt:150:31
+-- at: if1 left → if2 left → if3 taken → low
 low-requires-2 : tie.Need-low-requires-2
 low-requires-2 c κs = search needs
 
--- src/lib.rt:151:13
+-- at: if1 left → if2 left → if3 taken → if4 taken
 returns-3 : tie.Need-returns-3
 returns-3 c =
-    let a = c .before .before .before .before .before .before .before .before .args in
-    sym (match-tail (a .l .now) (a .at) (a .end) (a .path .now) (omega (arith, c .before .before .before .before .if2 .left)) (omega (arith, c .before .before .before .if3 .taken)) (λ z. c .if4 .taken (c .before .before .low .ensures ∙ z ∙ sym (c .before .low2 .ensures))))
+    let a = at-start .args in
+    sym (match-tail (a .l .now) (a .at) (a .end) (a .path .now) (omega (arith, at-if2-left .if2 .left))
+    (omega (arith, at-if3-taken .if3 .taken))
+    (λ z. c .if4 .taken (c .before .before .low .ensures ∙ z ∙ sym (c .before .low2 .ensures))))
+  where
+    at-if3-taken : tie.Then3
+    at-if3-taken = c .before .before .before
 
--- src/lib.rt:154:10
+    at-if2-left : tie.Else2
+    at-if2-left = at-if3-taken .before
+
+    at-start : tie.Start
+    at-start = start-of-if2-left at-if2-left
+
+-- at: if1 left → if2 left
 sub-same : tie.Need-sub-same
 sub-same c = search needs
 
--- src/lib.rt:154:10
+-- at: if1 left → if2 left
 part-same-start : tie.Need-part-same-start
 part-same-start c = search needs
 
--- src/lib.rt:154:10
+-- at: if1 left → if2 left
 part-same-end : tie.Need-part-same-end
 part-same-end c = search needs
 
--- src/lib.rt:154:5
+-- at: if1 left → if2 left
 same-requires : tie.Need-same-requires
 same-requires c κs = search needs
 
--- src/lib.rt:139:1
+-- at: if1 left → if2 left → same
 returns-4 : tie.Need-returns-4
 returns-4 c =
-    let a = c .before .before .before .before .before .before .before .args in
-    c .same .ensures ∙ sym (match-inside (a .l .now) (a .at) (a .end) (a .path .now) (omega (arith, c .before .before .before .if2 .left)))
+    let a = at-start .args in
+    c .same .ensures ∙ sym (match-inside (a .l .now) (a .at) (a .end) (a .path .now) (omega (arith, at-if2-left .if2 .left)))
+  where
+    at-if2-left : tie.Else2
+    at-if2-left = c .before .before .before
+
+    at-start : tie.Start
+    at-start = start-of-if2-left at-if2-left
 
 pub matches-spec : {M : Type 1} → statement M
 matches-spec =

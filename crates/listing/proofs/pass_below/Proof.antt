@@ -1,130 +1,211 @@
+-- An entry that is below leaves the search to the rest.
 use borrow.Author.Needs.{needs}
-use mathlib.Core.Path.{sym, _∙_, ap}
 use mathlib.Core.List.{List}
 use native.Mathlib.Omega.{arith}
-use Prim.Native.Nat.{ℕ, _+_, _-_, _≤_}
-use lib.ListN.{length, drop, length-drop}
-use lib.Seq.{take-all}
-use borrow.Author.Tests.{not-true, not-false}
-use Rattle.laws.specs.SearchLaws.{Stopping, smaller-take}
+use Prim.Native.Nat.{ℕ, _-_, _≤_}
+use borrow.Author.Tests.{not-false}
+use Rattle.laws.specs.SearchLaws.{Stopping}
 use Rattle.listing.specs.Meaning.{Reached, WordsOf}
 use Rattle.listing.proofs.Seek.{reached-next, below-next, rest-below}
 use Rattle.listing.proofs.pass_below.Statement.{statement}
 use Rattle.listing.proofs.pass_below.Tie as tie
-use Rattle.listing.proofs.pass_below.Reads as reads
-use Rattle.listing.proofs.pass_below.Lts as lts
-use Rattle.listing.proofs.contents_length.Reads as contents-length-reads
-use Rattle.listing.proofs.number_at.Reads as number-at-reads
-use Rattle.listing.proofs.surely_below.Reads as surely-below-reads
-
--- An entry that is below leaves the search to the rest.
 
 abbrev Inv-loop : tie.InvT-loop
-Inv-loop l n from start w i₀ at₀ i at = Reached l n i at × (from ≤ i) × ((q : List ℕ) → WordsOf q w → Stopping l q from start → Stopping l q i at)
+Inv-loop l n from start w i₀ at₀ i at =
+    Reached l n i at × (from ≤ i) × ((q : List ℕ) → WordsOf q w → Stopping l q from start → Stopping l q i at)
 
 abbrev μ-loop : tie.MeasureT-loop
 μ-loop l n from start w i₀ at₀ i at = n - i
 
--- src/lib.rt:371:5
 loop-holds : tie.Need-loop-holds Inv-loop μ-loop
 loop-holds c = (c .before .pre, omega arith, λ q o m. m)
 
--- src/lib.rt:372:12
+-- at: loop → in loop
 add-if1 : tie.Need-add-if1 Inv-loop μ-loop
 add-if1 c = omega (arith, c .before .loop .inv .0 .few, c .before .loop .inv .0 .small, c .before .loop .inv .0 .index)
 
--- src/lib.rt:373:13
+-- at: loop → in loop → if1 taken
 returns : tie.Need-returns Inv-loop μ-loop
 returns c = c .before .before .loop .inv
 
--- src/lib.rt:375:26
+-- at: loop → in loop → if1 left
 sub-surely-below : tie.Need-sub-surely-below Inv-loop μ-loop
 sub-surely-below c = search needs
 
--- src/lib.rt:375:26
+-- at: loop → in loop → if1 left
 part-surely-below-start : tie.Need-part-surely-below-start Inv-loop μ-loop
 part-surely-below-start c = search needs
 
--- src/lib.rt:375:26
+-- at: loop → in loop → if1 left
 part-surely-below-end : tie.Need-part-surely-below-end Inv-loop μ-loop
 part-surely-below-end c = search needs
 
--- src/lib.rt:375:13
+-- at: loop → in loop → if1 left
 surely-below-requires : tie.Need-surely-below-requires Inv-loop μ-loop
 surely-below-requires c κs = search needs
 
--- src/lib.rt:376:13
+-- at: loop → in loop → if1 left → if2 taken
 returns-2 : tie.Need-returns-2 Inv-loop μ-loop
-returns-2 c = c .before .before .before .before .before .loop .inv
+returns-2 c =
+    let at-loop : tie.At-loop Inv-loop μ-loop = c .before .before .before .before .before in
+    at-loop .loop .inv
 
--- src/lib.rt:378:34
+-- at: loop → in loop → if1 left → if2 left
 mul-number-at : tie.Need-mul-number-at Inv-loop μ-loop
-mul-number-at c = omega (arith, c .before .before .before .before .before .loop .inv .0 .few, c .before .before .before .before .loop-test .taken)
+mul-number-at c = omega (arith, at-loop .loop .inv .0 .few, in-loop .loop-test .taken)
+  where
+    in-loop : tie.In-loop Inv-loop μ-loop
+    in-loop = c .before .before .before .before
 
--- src/lib.rt:378:30
+    at-loop : tie.At-loop Inv-loop μ-loop
+    at-loop = in-loop .before
+
+-- at: loop → in loop → if1 left → if2 left
 add-number-at : tie.Need-add-number-at Inv-loop μ-loop
-add-number-at c = omega (arith, c .before .before .before .before .before .loop .inv .0 .few, c .before .before .before .before .loop-test .taken)
+add-number-at c = omega (arith, at-loop .loop .inv .0 .few, in-loop .loop-test .taken)
+  where
+    in-loop : tie.In-loop Inv-loop μ-loop
+    in-loop = c .before .before .before .before
 
--- src/lib.rt:378:13
+    at-loop : tie.At-loop Inv-loop μ-loop
+    at-loop = in-loop .before
+
+-- at: loop → in loop → if1 left → if2 left
 number-at-requires : tie.Need-number-at-requires Inv-loop μ-loop
-number-at-requires c κs = omega (arith, c .before .before .before .before .before .loop .inv .0 .tables, c .before .before .before .before .loop-test .taken)
+number-at-requires c κs = omega (arith, at-loop .loop .inv .0 .tables, in-loop .loop-test .taken)
+  where
+    in-loop : tie.In-loop Inv-loop μ-loop
+    in-loop = c .before .before .before .before
 
--- src/lib.rt:379:34
+    at-loop : tie.At-loop Inv-loop μ-loop
+    at-loop = in-loop .before
+
+-- at: loop → in loop → if1 left → if2 left → number-at
 mul-number-at-2 : tie.Need-mul-number-at-2 Inv-loop μ-loop
-mul-number-at-2 c = omega (arith, c .before .before .before .before .before .before .loop .inv .0 .few)
+mul-number-at-2 c = omega (arith, at-loop .loop .inv .0 .few)
+  where
+    at-loop : tie.At-loop Inv-loop μ-loop
+    at-loop = c .before .before .before .before .before .before
 
--- src/lib.rt:379:30
+-- at: loop → in loop → if1 left → if2 left → number-at
 add-number-at-2 : tie.Need-add-number-at-2 Inv-loop μ-loop
-add-number-at-2 c = omega (arith, c .before .before .before .before .before .before .loop .inv .0 .few)
+add-number-at-2 c = omega (arith, at-loop .loop .inv .0 .few)
+  where
+    at-loop : tie.At-loop Inv-loop μ-loop
+    at-loop = c .before .before .before .before .before .before
 
--- src/lib.rt:379:42
+-- at: loop → in loop → if1 left → if2 left → number-at
 mul-number-at-3 : tie.Need-mul-number-at-3 Inv-loop μ-loop
-mul-number-at-3 c = omega (arith, c .before .before .before .before .before .before .loop .inv .0 .few, c .before .before .before .before .before .loop-test .taken)
+mul-number-at-3 c = omega (arith, at-loop .loop .inv .0 .few, in-loop .loop-test .taken)
+  where
+    in-loop : tie.In-loop Inv-loop μ-loop
+    in-loop = c .before .before .before .before .before
 
--- src/lib.rt:379:30
+    at-loop : tie.At-loop Inv-loop μ-loop
+    at-loop = in-loop .before
+
+-- at: loop → in loop → if1 left → if2 left → number-at
 add-number-at-3 : tie.Need-add-number-at-3 Inv-loop μ-loop
-add-number-at-3 c = omega (arith, c .before .before .before .before .before .before .loop .inv .0 .few, c .before .before .before .before .before .loop-test .taken)
+add-number-at-3 c = omega (arith, at-loop .loop .inv .0 .few, in-loop .loop-test .taken)
+  where
+    in-loop : tie.In-loop Inv-loop μ-loop
+    in-loop = c .before .before .before .before .before
 
--- src/lib.rt:379:13
+    at-loop : tie.At-loop Inv-loop μ-loop
+    at-loop = in-loop .before
+
+-- at: loop → in loop → if1 left → if2 left → number-at
 number-at-requires-2 : tie.Need-number-at-requires-2 Inv-loop μ-loop
-number-at-requires-2 c κs = omega (arith, c .before .before .before .before .before .before .loop .inv .0 .tables, c .before .before .before .before .before .loop-test .taken)
+number-at-requires-2 c κs = omega (arith, at-loop .loop .inv .0 .tables, in-loop .loop-test .taken)
+  where
+    in-loop : tie.In-loop Inv-loop μ-loop
+    in-loop = c .before .before .before .before .before
 
--- src/lib.rt:380:14
+    at-loop : tie.At-loop Inv-loop μ-loop
+    at-loop = in-loop .before
+
+-- at: loop → in loop → if1 left → if2 left → number-at2
 add-at : tie.Need-add-at Inv-loop μ-loop
-add-at c = omega (arith, c .before .before .before .before .before .before .before .loop .inv .0 .few, c .before .before .before .before .before .before .before .loop .inv .0 .small, c .before .before .before .before .before .before .loop-test .taken, c .before .number-at .ensures .1)
+add-at c =
+    omega (
+      arith,
+      at-loop .loop .inv .0 .few,
+      at-loop .loop .inv .0 .small,
+      in-loop .loop-test .taken,
+      c .before .number-at .ensures .1,
+    )
+  where
+    in-loop : tie.In-loop Inv-loop μ-loop
+    in-loop = c .before .before .before .before .before .before
 
--- src/lib.rt:380:23
+    at-loop : tie.At-loop Inv-loop μ-loop
+    at-loop = in-loop .before
+
+-- at: loop → in loop → if1 left → if2 left → number-at2
 contents-length-requires : tie.Need-contents-length-requires Inv-loop μ-loop
 contents-length-requires c κs = search needs
 
--- src/lib.rt:380:14
+-- at: loop → in loop → if1 left → if2 left → contents-length
 add-at-2 : tie.Need-add-at-2 Inv-loop μ-loop
-add-at-2 c = omega (arith, c .before .before .before .before .before .before .before .before .loop .inv .0 .few, c .before .before .before .before .before .before .before .before .loop .inv .0 .small, c .before .before .before .before .before .before .before .loop-test .taken, c .before .before .number-at .ensures .1, c .before .number-at2 .ensures .1, c .contents-length .ensures .1)
+add-at-2 c =
+    omega (
+      arith,
+      at-loop .loop .inv .0 .few,
+      at-loop .loop .inv .0 .small,
+      in-loop .loop-test .taken,
+      c .before .before .number-at .ensures .1,
+      c .before .number-at2 .ensures .1,
+      c .contents-length .ensures .1,
+    )
+  where
+    in-loop : tie.In-loop Inv-loop μ-loop
+    in-loop = c .before .before .before .before .before .before .before
 
--- src/lib.rt:381:9
+    at-loop : tie.At-loop Inv-loop μ-loop
+    at-loop = in-loop .before
+
+-- at: loop → in loop → if1 left → if2 left → contents-length
 add-i : tie.Need-add-i Inv-loop μ-loop
 add-i c = search needs
 
--- src/lib.rt:371:5
+-- at: loop → in loop → if1 left → if2 left → contents-length
 loop-less : tie.Need-loop-less Inv-loop μ-loop
 loop-less c = search needs
 
--- src/lib.rt:371:5
+-- at: loop → in loop → if1 left → if2 left → contents-length
 loop-again : tie.Need-loop-again Inv-loop μ-loop
 loop-again c =
-    let a = c .before .before .before .before .before .before .before .before .before .before .args in
-    let o = c .before .before .before .before .before .before .before .before .loop in
-    let h = c .before .before .before .before .before .before .before .loop-test .taken in
+    let a = at-start .args in
+    let o = at-loop .loop in
+    let h = in-loop .loop-test .taken in
     let k = c .before .before .number-at in
     let m = c .before .number-at2 in
     let x = c .contents-length in
-    let z = not-false _ (c .before .before .before .if2 .left) in (
-      reached-next (a .l .now) (a .l .now) (a .n) (o .i) (o .at) (k .result) (o .inv .0) h (k .ensures .0) (m .result) (m .ensures .0) (x .ensures .1) (k .ensures .1) (m .ensures .1),
+    let z = not-false _ (at-if2-left .if2 .left) in (
+      reached-next (a .l .now) (a .l .now) (a .n) (o .i) (o .at) (k .result) (o .inv .0) h (k .ensures .0) (m .result)
+          (m .ensures .0) (x .ensures .1) (k .ensures .1) (m .ensures .1),
       omega (arith, o .inv .1),
-      λ q e s. below-next (a .l .now) q (a .n) (o .i) (o .at) (k .result) (o .inv .0) h (k .ensures .0) (m .result) (m .ensures .0) (rest-below (a .l .now) q (o .at) (k .result) (c .before .before .before .before .surely-below .ensures z q e)) (x .ensures .0) (o .inv .2 q e s),
+      λ q e s. below-next (a .l .now) q (a .n) (o .i) (o .at) (k .result) (o .inv .0) h (k .ensures .0) (m .result) (m .ensures .0)
+          (rest-below (a .l .now) q (o .at) (k .result) (at-surely-below .surely-below .ensures z q e)) (x .ensures .0)
+          (o .inv .2 q e s),
     )
+  where
+    at-if2-left : tie.Else2 Inv-loop μ-loop
+    at-if2-left = c .before .before .before
 
--- src/lib.rt:365:1
+    at-surely-below : tie.After-surely-below Inv-loop μ-loop
+    at-surely-below = at-if2-left .before
+
+    in-loop : tie.In-loop Inv-loop μ-loop
+    in-loop = at-surely-below .before .before .before
+
+    at-loop : tie.At-loop Inv-loop μ-loop
+    at-loop = in-loop .before
+
+    at-start : tie.Start Inv-loop μ-loop
+    at-start = at-loop .before .before
+
+-- at: loop
 returns-3 : tie.Need-returns-3 Inv-loop μ-loop
 returns-3 c = c .before .loop .inv
 

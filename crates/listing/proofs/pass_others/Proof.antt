@@ -1,3 +1,4 @@
+-- An entry with another path decides nothing of whether the path is missing.
 use borrow.Author.Needs.{needs}
 use native.Mathlib.Omega.{arith}
 use Prim.Native.Nat.{_-_, _≤_}
@@ -6,13 +7,6 @@ use Rattle.listing.specs.Meaning.{Reached}
 use Rattle.listing.proofs.Seek.{reached-next, other-next}
 use Rattle.listing.proofs.pass_others.Statement.{statement}
 use Rattle.listing.proofs.pass_others.Tie as tie
-use Rattle.listing.proofs.pass_others.Reads as reads
-use Rattle.listing.proofs.pass_others.Lts as lts
-use Rattle.listing.proofs.contents_length.Reads as contents-length-reads
-use Rattle.listing.proofs.matches.Reads as matches-reads
-use Rattle.listing.proofs.number_at.Reads as number-at-reads
-
--- An entry with another path decides nothing of whether the path is missing.
 
 abbrev Inv-loop : tie.InvT-loop
 Inv-loop l n from start to path i₀ at₀ i at = Reached l n i at × (i ≤ to) × (Missing l path from start → Missing l path i at)
@@ -20,86 +14,180 @@ Inv-loop l n from start to path i₀ at₀ i at = Reached l n i at × (i ≤ to)
 abbrev μ-loop : tie.MeasureT-loop
 μ-loop l n from start to path i₀ at₀ i at = to - i
 
--- src/lib.rt:229:5
 loop-holds : tie.Need-loop-holds Inv-loop μ-loop
 loop-holds c = let s = c .before .before in (s .pre .0, s .pre .1, λ m. m)
 
--- src/lib.rt:230:41
+-- at: loop → in loop
 mul-number-at : tie.Need-mul-number-at Inv-loop μ-loop
-mul-number-at c = omega (arith, c .before .loop .inv .0 .few, c .before .before .before .before .pre .2, c .loop-test .taken)
+mul-number-at c = omega (arith, c .before .loop .inv .0 .few, at-start .pre .2, c .loop-test .taken)
+  where
+    at-start : tie.Start Inv-loop μ-loop
+    at-start = c .before .before .before .before
 
--- src/lib.rt:230:37
+-- at: loop → in loop
 add-number-at : tie.Need-add-number-at Inv-loop μ-loop
-add-number-at c = omega (arith, c .before .loop .inv .0 .few, c .before .before .before .before .pre .2, c .loop-test .taken)
+add-number-at c = omega (arith, c .before .loop .inv .0 .few, at-start .pre .2, c .loop-test .taken)
+  where
+    at-start : tie.Start Inv-loop μ-loop
+    at-start = c .before .before .before .before
 
--- src/lib.rt:230:24
+-- at: loop → in loop
 number-at-requires : tie.Need-number-at-requires Inv-loop μ-loop
-number-at-requires c κs = omega (arith, c .before .loop .inv .0 .tables, c .before .before .before .before .pre .2, c .loop-test .taken)
+number-at-requires c κs = omega (arith, c .before .loop .inv .0 .tables, at-start .pre .2, c .loop-test .taken)
+  where
+    at-start : tie.Start Inv-loop μ-loop
+    at-start = c .before .before .before .before
 
--- src/lib.rt:230:19
+-- at: loop → in loop → number-at
 add-end : tie.Need-add-end Inv-loop μ-loop
-add-end c = omega (arith, c .before .before .loop .inv .0 .few, c .before .before .loop .inv .0 .small, c .before .before .before .before .before .pre .2, c .before .loop-test .taken, c .number-at .ensures .1)
+add-end c =
+    omega (
+      arith,
+      c .before .before .loop .inv .0 .few,
+      c .before .before .loop .inv .0 .small,
+      at-start .pre .2,
+      c .before .loop-test .taken,
+      c .number-at .ensures .1,
+    )
+  where
+    at-start : tie.Start Inv-loop μ-loop
+    at-start = c .before .before .before .before .before
 
--- src/lib.rt:231:12
+-- at: loop → in loop → number-at
 matches-requires : tie.Need-matches-requires Inv-loop μ-loop
 matches-requires c κs = search needs
 
--- src/lib.rt:232:13
+-- at: loop → in loop → if1 taken
 returns : tie.Need-returns Inv-loop μ-loop
-returns c = c .before .before .before .before .loop .inv
+returns c =
+    let at-loop : tie.At-loop Inv-loop μ-loop = c .before .before .before .before in
+    at-loop .loop .inv
 
--- src/lib.rt:234:34
+-- at: loop → in loop → if1 left
 mul-number-at-2 : tie.Need-mul-number-at-2 Inv-loop μ-loop
-mul-number-at-2 c = omega (arith, c .before .before .before .before .loop .inv .0 .few)
+mul-number-at-2 c = omega (arith, at-loop .loop .inv .0 .few)
+  where
+    at-loop : tie.At-loop Inv-loop μ-loop
+    at-loop = c .before .before .before .before
 
--- src/lib.rt:234:30
+-- at: loop → in loop → if1 left
 add-number-at-2 : tie.Need-add-number-at-2 Inv-loop μ-loop
-add-number-at-2 c = omega (arith, c .before .before .before .before .loop .inv .0 .few)
+add-number-at-2 c = omega (arith, at-loop .loop .inv .0 .few)
+  where
+    at-loop : tie.At-loop Inv-loop μ-loop
+    at-loop = c .before .before .before .before
 
--- src/lib.rt:234:42
+-- at: loop → in loop → if1 left
 mul-number-at-3 : tie.Need-mul-number-at-3 Inv-loop μ-loop
-mul-number-at-3 c = omega (arith, c .before .before .before .before .loop .inv .0 .few, c .before .before .before .before .before .before .before .pre .2, c .before .before .before .loop-test .taken)
+mul-number-at-3 c = omega (arith, at-loop .loop .inv .0 .few, at-start .pre .2, in-loop .loop-test .taken)
+  where
+    in-loop : tie.In-loop Inv-loop μ-loop
+    in-loop = c .before .before .before
 
--- src/lib.rt:234:30
+    at-loop : tie.At-loop Inv-loop μ-loop
+    at-loop = in-loop .before
+
+    at-start : tie.Start Inv-loop μ-loop
+    at-start = at-loop .before .before .before
+
+-- at: loop → in loop → if1 left
 add-number-at-3 : tie.Need-add-number-at-3 Inv-loop μ-loop
-add-number-at-3 c = omega (arith, c .before .before .before .before .loop .inv .0 .few, c .before .before .before .before .before .before .before .pre .2, c .before .before .before .loop-test .taken)
+add-number-at-3 c = omega (arith, at-loop .loop .inv .0 .few, at-start .pre .2, in-loop .loop-test .taken)
+  where
+    in-loop : tie.In-loop Inv-loop μ-loop
+    in-loop = c .before .before .before
 
--- src/lib.rt:234:13
+    at-loop : tie.At-loop Inv-loop μ-loop
+    at-loop = in-loop .before
+
+    at-start : tie.Start Inv-loop μ-loop
+    at-start = at-loop .before .before .before
+
+-- at: loop → in loop → if1 left
 number-at-requires-2 : tie.Need-number-at-requires-2 Inv-loop μ-loop
-number-at-requires-2 c κs = omega (arith, c .before .before .before .before .loop .inv .0 .tables, c .before .before .before .before .before .before .before .pre .2, c .before .before .before .loop-test .taken)
+number-at-requires-2 c κs = omega (arith, at-loop .loop .inv .0 .tables, at-start .pre .2, in-loop .loop-test .taken)
+  where
+    in-loop : tie.In-loop Inv-loop μ-loop
+    in-loop = c .before .before .before
 
--- src/lib.rt:235:20
+    at-loop : tie.At-loop Inv-loop μ-loop
+    at-loop = in-loop .before
+
+    at-start : tie.Start Inv-loop μ-loop
+    at-start = at-loop .before .before .before
+
+-- at: loop → in loop → if1 left → number-at2
 contents-length-requires : tie.Need-contents-length-requires Inv-loop μ-loop
 contents-length-requires c κs = search needs
 
--- src/lib.rt:235:14
+-- at: loop → in loop → if1 left → contents-length
 add-at : tie.Need-add-at Inv-loop μ-loop
-add-at c = omega (arith, c .before .before .before .before .before .before .loop .inv .0 .few, c .before .before .before .before .before .before .loop .inv .0 .small, c .before .before .before .before .before .before .before .before .before .pre .2, c .before .before .before .before .before .loop-test .taken, c .before .before .before .before .number-at .ensures .1, c .before .number-at2 .ensures .1, c .contents-length .ensures .1)
+add-at c =
+    omega (
+      arith,
+      at-loop .loop .inv .0 .few,
+      at-loop .loop .inv .0 .small,
+      at-start .pre .2,
+      in-loop .loop-test .taken,
+      at-number-at .number-at .ensures .1,
+      c .before .number-at2 .ensures .1,
+      c .contents-length .ensures .1,
+    )
+  where
+    at-number-at : tie.After-number-at Inv-loop μ-loop
+    at-number-at = c .before .before .before .before
 
--- src/lib.rt:236:9
+    in-loop : tie.In-loop Inv-loop μ-loop
+    in-loop = at-number-at .before
+
+    at-loop : tie.At-loop Inv-loop μ-loop
+    at-loop = in-loop .before
+
+    at-start : tie.Start Inv-loop μ-loop
+    at-start = at-loop .before .before .before
+
+-- at: loop → in loop → if1 left → contents-length
 add-i : tie.Need-add-i Inv-loop μ-loop
 add-i c = search needs
 
--- src/lib.rt:229:5
+-- at: loop → in loop → if1 left → contents-length
 loop-less : tie.Need-loop-less Inv-loop μ-loop
 loop-less c = search needs
 
--- src/lib.rt:229:5
+-- at: loop → in loop → if1 left → contents-length
 loop-again : tie.Need-loop-again Inv-loop μ-loop
 loop-again c =
-    let s = c .before .before .before .before .before .before .before .before .before in
+    let s = at-start in
     let a = s .args in
-    let o = c .before .before .before .before .before .before .loop in
-    let k = c .before .before .before .before .number-at in
+    let o = at-loop .loop in
+    let k = at-number-at .number-at in
     let m = c .before .number-at2 in
-    let h = c .before .before .before .before .before .loop-test .taken in
+    let h = in-loop .loop-test .taken in
     let l = c .contents-length in (
-      reached-next (a .l .now) (a .path .now) (a .n) (o .i) (o .at) (k .result) (o .inv .0) (omega (arith, h, s .pre .2)) (k .ensures .0) (m .result) (m .ensures .0) (l .ensures .1) (k .ensures .1) (m .ensures .1),
+      reached-next (a .l .now) (a .path .now) (a .n) (o .i) (o .at) (k .result) (o .inv .0) (omega (arith, h, s .pre .2))
+          (k .ensures .0) (m .result) (m .ensures .0) (l .ensures .1) (k .ensures .1) (m .ensures .1),
       omega (arith, h),
-      λ z. other-next (a .l .now) (a .path .now) (a .n) (o .i) (o .at) (k .result) (o .inv .0) (omega (arith, h, s .pre .2)) (k .ensures .0) (m .result) (m .ensures .0) (c .before .before .before .matches .ensures) (c .before .before .if1 .left) (l .ensures .0) (o .inv .2 z),
+      λ z. other-next (a .l .now) (a .path .now) (a .n) (o .i) (o .at) (k .result) (o .inv .0) (omega (arith, h, s .pre .2))
+          (k .ensures .0) (m .result) (m .ensures .0) (at-matches .matches .ensures) (c .before .before .if1 .left) (l .ensures .0)
+          (o .inv .2 z),
     )
+  where
+    at-matches : tie.After-matches Inv-loop μ-loop
+    at-matches = c .before .before .before
 
--- src/lib.rt:223:1
+    at-number-at : tie.After-number-at Inv-loop μ-loop
+    at-number-at = at-matches .before
+
+    in-loop : tie.In-loop Inv-loop μ-loop
+    in-loop = at-number-at .before
+
+    at-loop : tie.At-loop Inv-loop μ-loop
+    at-loop = in-loop .before
+
+    at-start : tie.Start Inv-loop μ-loop
+    at-start = at-loop .before .before .before
+
+-- at: loop
 returns-2 : tie.Need-returns-2 Inv-loop μ-loop
 returns-2 c = c .before .loop .inv
 
