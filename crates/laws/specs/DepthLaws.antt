@@ -12,7 +12,7 @@ use Rattle.definition.specs.Text.{text, if_then_else_, slash, equal, count, all
 use Rattle.laws.specs.TextLaws.{and-true, equal-true}
 use Rattle.definition.specs.Path.{dirs, depth}
 use Rattle.laws.specs.WalkPathLaws.{length-dirs}
-use Rattle.definition.specs.Listing.{Entry, noEntry, directoryEntry, fileEntry, Row, rows, entryOf, entryIn, entryAt, height, rowFits, passes30, sizesFit, isManifest, isDirectoryEntry, isDirectoryOf}
+use Rattle.definition.specs.Listing.{Entry, noEntry, directoryEntry, fileEntry, Row, rows, entryOf, entryIn, height, rowFits, passes30, sizesFit, isManifest, isDirectoryEntry, foundAt, isDirectoryOf}
 use Rattle.definition.specs.Ask.{directory, stateOf}
 use Rattle.definition.specs.Settings.{countOf, countBefore, sum, textLengths, allTexts, isSetting, isNonEmpty, textsOf, passes24}
 
@@ -48,9 +48,9 @@ folder-of noEntry h = cc
 folder-of directoryEntry h = refl
 folder-of (fileEntry b) h = cc
 
-pub folder-at : (l : List ℕ) (p : Text) → isDirectoryOf l p ≡ true → entryAt l p ≡ directoryEntry
+pub folder-at : (l : List ℕ) (p : Text) → isDirectoryOf l p ≡ true → foundAt l p ≡ directoryEntry
 unfolding isDirectoryOf
-folder-at l p h = is-folder (entryAt l p) h
+folder-at l p h = is-folder (foundAt l p) h
 
 -- within the limit of 32 components
 fits-dirs : (r : Row) → rowFits r ≡ true → length (dirs (r .path)) ≤ 33

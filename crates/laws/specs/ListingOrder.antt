@@ -177,7 +177,7 @@ module _ (p q : List ℕ) (j : ℕ) (e : take j p ≡ take j q) (h : j ≤ lengt
   }
 
 -- what is smaller than the entry before the rest is not among the rest
-after-no-entry : (q t : Text) (rest : List Row) → risingAfter q rest ≡ true → smaller t q ≡ true → entryIn rest t ≡ noEntry
+pub after-no-entry : (q t : Text) (rest : List Row) → risingAfter q rest ≡ true → smaller t q ≡ true → entryIn rest t ≡ noEntry
 unfolding risingAfter entryIn
 after-no-entry q t [] r s = refl
 after-no-entry q t (x ∷ rest) r s = go (smaller q (x .path)) refl (after-no-entry (x .path) t rest)

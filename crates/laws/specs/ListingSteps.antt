@@ -8,7 +8,7 @@ use lib.ListN.{length, drop, take, getD, length-drop, length-take, drop-of-lengt
 use Rattle.laws.specs.TextLaws.{and-true, equal-true}
 use lib.Seq.{drop-drop, getD-drop, take-all, take-nil}
 use lib.Dec.{eqb, leb}
-use Rattle.definition.specs.Listing.{noEntry, number32, entryCount, directoryMark, contentsLength, lengthsFrom, Row, rowsFrom, rows, entryOf, entryIn, entryAt, rising, firstIsRoot, sizesFit, textLength}
+use Rattle.definition.specs.Listing.{noEntry, number32, entryCount, directoryMark, contentsLength, lengthsFrom, Row, rowsFrom, rows, entryOf, entryIn, rising, firstIsRoot, sizesFit, textLength}
 use Rattle.definition.specs.Text.{Text, text, equal, smaller, all}
 use borrow.Author.Tests.{leb-true, leb-false, le-leb, lt-leb, eqb-true}
 use Rattle.laws.specs.TextSteps.{equal-lengths}
@@ -251,7 +251,7 @@ pub root-first : {rs : List Row} {r : Row} {q : List Row} → rs ≡ r ∷ q →
 unfolding firstIsRoot
 root-first e h = rw (e, h)
 
-part-length : (l : List ℕ) (a e : ℕ) → a ≤ e → e ≤ length l → length (part l a e) ≡ e - a
+pub part-length : (l : List ℕ) (a e : ℕ) → a ≤ e → e ≤ length l → length (part l a e) ≡ e - a
 part-length l a e h k = length-take (e - a) (drop a l) ∙ omega (arith, length-drop a l)
 
 pub root-length : (p : Text) → equal p (text "/") ≡ true → length p ≡ 1
@@ -294,24 +294,3 @@ module _ (l : List ℕ) (a e : ℕ) (p : Text) where
       go : (e ≤ length l) ⊎ (length l < e) → (leb e (length l) && equal (part l a e) p) ≡ false
       go (inl i) = match-inside i ∙ equal-lengths _ _ (λ z. k (sym (part-length l a e h i) ∙ z))
       go (inr i) = match-beyond i
-
--- a search over lengths that are added up unclamped: as long as the place lies within the bytes, the rest decides
-abbrev pub Seeking : List ℕ → Text → ℕ → ℕ → Type 0
-Seeking l p i at = at ≤ length l → entryIn (rowsAt l i at) p ≡ entryAt l p
-
-pub seek-start : (l : List ℕ) (p : Text) (n : ℕ) → n ≡ entryCount l → Seeking l p 0 (8 + 8 * n)
-unfolding entryAt
-seek-start l p n e h = ap (λ rs. entryIn rs p) (ap (λ (k : ℕ). rowsAt l 0 (8 + 8 * k)) e ∙ sym (rows-start l))
-
-pub seek-end : (l : List ℕ) (p : Text) (i at : ℕ) → Seeking l p i at → at ≤ length l → entryCount l ≤ i → noEntry ≡ entryAt l p
-seek-end l p i at s h k = sym (entry-end p (rows-end l i at k)) ∙ s h
-
-module _ (l : List ℕ) (p : Text) (i at e x : ℕ) (s : Seeking l p i at) (h : i < entryCount l) (k : e ≡ at + pathLengthAt l i) where
-  pub seek-hit : (leb e (length l) && equal (part l at e) p) ≡ true → x ≡ min (e + contentsLength (contentsMarkAt l i)) (length l) → entryOf (rowBy l at e x (eqb (contentsMarkAt l i) directoryMark)) ≡ entryAt l p
-  seek-hit m q =
-      let a : (leb e (length l) ≡ true) × (equal (part l at e) p ≡ true) = and-true _ _ m in
-      let b : e ≤ length l = leb-true _ _ (a .0) in
-      sym (entry-hit p (rows-place l i at e x h (omega arith) (omega arith) q) (a .1)) ∙ s (omega arith)
-
-  pub seek-miss : (leb e (length l) && equal (part l at e) p) ≡ false → x ≡ e + contentsLength (contentsMarkAt l i) → Seeking l p (i + 1) x
-  seek-miss m q u = sym (entry-miss p (rows-place l i at e x h (omega arith) (omega arith) (omega arith)) (sym (match-inside l at e p (omega arith)) ∙ m)) ∙ s (omega arith)

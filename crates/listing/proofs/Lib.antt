@@ -1,3 +1,4 @@
 mod Seek
 mod Partings
+mod Eights
 pub mod Numbers

@@ -1,6 +1,6 @@
 -- Where two texts part: behind what they share, one ends or their bytes differ.
-use mathlib.Core.Path.{_≡_, sym, _∙_, ap}
-use mathlib.Core.Bool.{true, false}
+use mathlib.Core.Path.{_≡_, refl, sym, _∙_, ap}
+use mathlib.Core.Bool.{Bool, true, false}
 use mathlib.Core.List.{[], _∷_}
 use Prim.Native.Nat.{ℕ, zero, suc, _+_, _≤_, _<_}
 use native.Mathlib.Omega.{arith}
@@ -40,3 +40,21 @@ module _ (p q : Text) (i : ℕ) (e : take i p ≡ take i q) (h : i ≤ length p)
   pub up-here : i < length p → getD p i 0 < getD q i 0 → Up i ≡ partingOf p q
   unfolding sharedLength
   up-here n l = up-at (smaller-here p q i n k l) (rw (drop-cons p i 0 n, drop-cons q i 0 k, ne-eqb (getD p i 0) (getD q i 0) (λ z. omega arith)))
+
+-- what a parting says of the order
+module _ (p q : Text) where
+  pub told-up : {i : ℕ} → Up i ≡ partingOf p q → true ≡ smaller p q
+  unfolding partingOf
+  told-up {i} e = go (smaller p q) refl
+    where
+      go : (b : Bool) → smaller p q ≡ b → true ≡ smaller p q
+      go true h = sym h
+      go false h = let z : Up i ≡ Down = rw h at e in cc
+
+  pub told-down : Down ≡ partingOf p q → false ≡ smaller p q
+  unfolding partingOf
+  told-down e = go (smaller p q) refl
+    where
+      go : (b : Bool) → smaller p q ≡ b → false ≡ smaller p q
+      go true h = let z : Down ≡ Up (sharedLength p q) = rw h at e in cc
+      go false h = sym h

@@ -1,66 +1,110 @@
--- One entry of the search over unclamped lengths.
+-- One entry of the search over unclamped lengths, and what its places say.
 use mathlib.Core.Path.{_≡_, refl, sym, _∙_, ap}
 use mathlib.Core.Bool.{Bool, true, false, _&&_}
 use mathlib.Core.List.{List, [], _∷_}
-use borrow.Author.Tests.{leb-true, eq-eqb, ne-eqb}
+use borrow.Author.Tests.{eq-eqb, ne-eqb}
 use Prim.Native.Nat.{ℕ, _+_, _-_, _*_, _≤_, _<_, min}
 use native.Mathlib.Omega.{arith}
-use lib.ListN.{length, drop, getD}
-use lib.Seq.{getD-take, getD-drop}
+use lib.ListN.{length, drop, take, getD, length-drop}
+use lib.Seq.{getD-take, getD-drop, take-all}
 use lib.Dec.{eqb, leb}
-use Rattle.definition.specs.Text.{Text, equal}
-use Rattle.definition.specs.Listing.{entryCount, number32, contentsLength, entryOf, directoryMark}
-use Rattle.laws.specs.TextLaws.{and-true, equal-true}
-use Rattle.laws.specs.ListingSteps.{part, pathLengthAt, contentsMarkAt, match-inside, Seeking, seek-hit, seek-miss}
-use Rattle.listing.specs.Meaning.{Searched}
-use Rattle.listing.specs.declared.Found.the-variants.{Directory, File}
+use Rattle.definition.specs.Text.{Text, equal, smaller}
+use Rattle.definition.specs.Listing.{noEntry, entryCount, number32, contentsLength, placeAt, directoryMark}
+use Rattle.laws.specs.TextLaws.{equal-true}
+use Rattle.laws.specs.ListingSteps.{part, pathLengthAt, contentsMarkAt, number-at, match-inside}
+use Rattle.laws.specs.SearchLaws.{viewed, InBytes, found-viewed, Stopping, Missing, stop-same, stop-past, stop-below, missing-past, missing-other, smaller-take}
+use Rattle.listing.specs.Meaning.{seen, Inside, placeOf, Searched, Reached}
+use Rattle.listing.specs.declared.Found.{Found}
+use Rattle.listing.specs.declared.Found.the-variants.{Absent, Directory, File}
 
--- the text from `at` to e, as long as p, by its last byte
-module _ (l : List ℕ) (at e : ℕ) (p : Text) (n : e - at ≡ length p) (h : e ≤ length l) where
-  pub match-empty : e ≡ at → (leb e (length l) && equal (part l at e) p) ≡ true
-  unfolding equal
-  match-empty z = match-inside l at e p h ∙ go p (omega arith)
-    where
-      go : (p : Text) → length p ≡ 0 → equal (part l at e) p ≡ true
-      go [] u = let d : e - at ≡ 0 = omega arith in rw d
-      go (x ∷ p) u = let d : ⊥ = omega arith in absurd d
+-- the text from `at` to e, by its last eight bytes
+module _ (l : List ℕ) (at e : ℕ) (p : Text) (h : e ≤ length l) (u : at + 8 ≤ e) where
+  byte-in : (i : ℕ) → i < e - at → getD (part l at e) i 0 ≡ getD l (at + i) 0
+  byte-in i v = getD-take (e - at) (drop at l) i 0 v ∙ getD-drop at l i 0
 
-  pub match-last : at < e → (getD l (e - 1) 0 ≡ getD p (e - at - 1) 0 → ⊥) → (leb e (length l) && equal (part l at e) p) ≡ false
-  match-last u f = match-inside l at e p h ∙ go (equal (part l at e) p) refl
+  number-in : (k m : ℕ) → m ≡ at + k → k + 4 ≤ e - at → number32 (drop k (part l at e)) ≡ number32 (drop m l)
+  number-in k m q v =
+      let a : getD (part l at e) k 0 ≡ getD l m 0 = byte-in k (omega arith) ∙ ap (λ (n : ℕ). getD l n 0) (sym q) in
+      let b : getD (part l at e) (k + 1) 0 ≡ getD l (m + 1) 0 = byte-in (k + 1) (omega arith) ∙ ap (λ (n : ℕ). getD l n 0) (omega arith) in
+      let c : getD (part l at e) (k + 2) 0 ≡ getD l (m + 2) 0 = byte-in (k + 2) (omega arith) ∙ ap (λ (n : ℕ). getD l n 0) (omega arith) in
+      let d : getD (part l at e) (k + 3) 0 ≡ getD l (m + 3) 0 = byte-in (k + 3) (omega arith) ∙ ap (λ (n : ℕ). getD l n 0) (omega arith) in
+      omega (arith, number-at (part l at e) k, number-at l m, a, b, c, d)
+
+  pub match-tail : (number32 (drop (e - 8) l) + 4294967296 * number32 (drop (e - 8 + 4) l) ≡ number32 (drop (e - at - 8) p) + 4294967296 * number32 (drop (e - at - 8 + 4) p) → ⊥)
+      → (leb e (length l) && equal (part l at e) p) ≡ false
+  match-tail f = match-inside l at e p h ∙ go (equal (part l at e) p) refl
     where
-      ends : getD (part l at e) (e - at - 1) 0 ≡ getD l (e - 1) 0
-      ends = let d : at + (e - at - 1) ≡ e - 1 = omega arith in getD-take (e - at) (drop at l) (e - at - 1) 0 (omega arith) ∙ getD-drop at l (e - at - 1) 0 ∙ ap (λ (k : ℕ). getD l k 0) d
+      same : equal (part l at e) p ≡ true → (k m : ℕ) → m ≡ at + k → k + 4 ≤ e - at → number32 (drop m l) ≡ number32 (drop k p)
+      same q k m w v = sym (number-in k m w v) ∙ ap (λ t. number32 (drop k t)) (equal-true _ _ q)
 
       go : (b : Bool) → equal (part l at e) p ≡ b → equal (part l at e) p ≡ false
       go false q = q
-      go true q = absurd (f (sym ends ∙ ap (λ t. getD t (e - at - 1) 0) (equal-true _ _ q)))
+      go true q = absurd (f (omega (arith, same q (e - at - 8) (e - 8) (omega arith) (omega arith), same q (e - at - 8 + 4) (e - 8 + 4) (omega arith) (omega arith))))
 
--- the path has k bytes from `at` on, c is the mark of the contents, and b says whether the entry matches
-module _ (l : List ℕ) (p : Text) (n i at k c : ℕ) {b : Bool} (e : n ≡ entryCount l) (s : Seeking l p i at) (h : i < n) (x : k ≡ number32 (drop (8 + 4 * i) l)) (y : c ≡ number32 (drop (8 + 4 * n + 4 * i) l)) (m : b ≡ (leb (at + k) (length l) && equal (part l at (at + k)) p)) where
-  mark : c ≡ contentsMarkAt l i
-  unfolding contentsMarkAt
-  mark = y ∙ ap (λ (n : ℕ). number32 (drop (8 + 4 * n + 4 * i) l)) e
-
+-- the path has k bytes from `at` on
+module _ (l : List ℕ) (p : Text) (n i at k : ℕ) (r : Reached l n i at) (h : i < n) (x : k ≡ number32 (drop (8 + 4 * i) l)) where
   end : at + k ≡ at + pathLengthAt l i
   unfolding pathLengthAt
   end = ap (λ (k : ℕ). at + k) x
 
-  pub hit-inside : b ≡ true → at + k ≤ length l
-  hit-inside t = leb-true _ _ (and-true _ _ (sym m ∙ t) .0)
+  inside : i < entryCount l
+  inside = omega (arith, r .count)
 
-  pub hit-directory : b ≡ true → c ≡ directoryMark → Searched l p Directory
-  unfolding entryOf
-  hit-directory t d =
-      let f : eqb (contentsMarkAt l i) directoryMark ≡ true = eq-eqb _ _ (sym mark ∙ d) in
-      record { entry = rw f at (seek-hit l p i at (at + k) _ s (omega arith) end (sym m ∙ t) refl); inside = tt }
+  pub past-here : at + k ≤ length l → smaller p (part l at (at + k)) ≡ true → Missing l p i at → placeAt l p ≡ noEntry
+  past-here b t s = missing-past l p i at (at + k) inside end s b t
 
-  pub hit-file : {r : ℕ} → b ≡ true → (c ≡ directoryMark → ⊥) → r ≡ min (at + k + c) (length l) → Searched l p (File (at + k) r)
-  unfolding entryOf contentsLength
-  hit-file t d q =
-      let f : eqb (contentsMarkAt l i) directoryMark ≡ false = ne-eqb _ _ (λ z. d (mark ∙ z)) in
-      let g : c ≡ contentsLength (contentsMarkAt l i) = mark ∙ sym (rw f) in
-      let u : at + k ≤ length l = hit-inside t in
-      record { entry = rw f at (seek-hit l p i at (at + k) _ s (omega arith) end (sym m ∙ t) (q ∙ ap (λ (v : ℕ). min (at + k + v) (length l)) g)); inside = (omega arith, omega arith) }
+  pub stop-none : at + k ≤ length l → Stopping l p i at → smaller (part l at (at + k)) p ≡ false → equal (part l at (at + k)) p ≡ false → noEntry ≡ placeAt l p
+  stop-none b s t u = stop-past l p i at (at + k) inside end s b t u
 
-  pub miss : {r : ℕ} → b ≡ false → r ≡ contentsLength c → Seeking l p (i + 1) (at + k + r)
-  miss t q = seek-miss l p i at (at + k) _ s (omega arith) end (sym m ∙ t) (ap (λ (v : ℕ). at + k + v) (q ∙ ap contentsLength mark))
+  -- c is the mark of the contents
+  module _ (c : ℕ) (y : c ≡ number32 (drop (8 + 4 * n + 4 * i) l)) where
+    mark : c ≡ contentsMarkAt l i
+    unfolding contentsMarkAt
+    mark = y ∙ ap (λ (n : ℕ). number32 (drop (8 + 4 * n + 4 * i) l)) (r .count)
+
+    next : {m : ℕ} → m ≡ contentsLength c → at + k + m ≡ at + k + contentsLength (contentsMarkAt l i)
+    next q = ap (λ (v : ℕ). at + k + v) (q ∙ ap contentsLength mark)
+
+    pub reached-next : {m : ℕ} → m ≤ c → k < 4294967296 → c < 4294967296 → Reached l n (i + 1) (at + k + m)
+    reached-next b u v = record { count = r .count; few = r .few; tables = r .tables; index = omega arith; small = omega (arith, r .small) }
+
+    pub other-next : {m : ℕ} {b : Bool} → b ≡ (leb (at + k) (length l) && equal (part l at (at + k)) p) → b ≡ false → m ≡ contentsLength c → Missing l p i at → Missing l p (i + 1) (at + k + m)
+    other-next t f q s = missing-other l p i at (at + k) inside end s _ (sym t ∙ f) (next q)
+
+    pub below-next : {m : ℕ} → smaller (part l at (at + k)) p ≡ true → m ≡ contentsLength c → Stopping l p i at → Stopping l p (i + 1) (at + k + m)
+    below-next t q s = stop-below l p i at (at + k) inside end s _ t (next q)
+
+    -- the first path not below is the one sought
+    module _ (b : at + k ≤ length l) (s : Stopping l p i at) (t : equal (part l at (at + k)) p ≡ true) where
+      pub stop-directory : c ≡ directoryMark → placeOf Directory ≡ placeAt l p
+      stop-directory d =
+          let f : eqb (contentsMarkAt l i) directoryMark ≡ true = eq-eqb _ _ (sym mark ∙ d) in
+          rw f at (stop-same l p i at (at + k) inside end s _ b t refl)
+
+      pub stop-file : {m : ℕ} → (c ≡ directoryMark → ⊥) → m ≡ min (at + k + c) (length l) → placeOf (File (at + k) m) ≡ placeAt l p
+      unfolding contentsLength
+      stop-file d q =
+          let f : eqb (contentsMarkAt l i) directoryMark ≡ false = ne-eqb _ _ (λ z. d (mark ∙ z)) in
+          let g : c ≡ contentsLength (contentsMarkAt l i) = mark ∙ sym (rw f) in
+          rw f at (stop-same l p i at (at + k) inside end s _ b t (q ∙ ap (λ (v : ℕ). min (at + k + v) (length l)) g))
+
+-- a path is below where all the bytes from it on are
+pub rest-below : (l : List ℕ) (p : Text) (at k : ℕ) → smaller (take (length l - at) (drop at l)) p ≡ true → smaller (part l at (at + k)) p ≡ true
+rest-below l p at k h =
+    let a : take (length l - at) (drop at l) ≡ drop at l = take-all (length l - at) (drop at l) (omega (arith, length-drop at l)) in
+    smaller-take (at + k - at) (drop at l) p (rw a at h)
+
+-- what a search by places says of the listing
+pub searched : (l : List ℕ) (p : Text) (r : Found) → placeOf r ≡ placeAt l p → Searched l p r
+unfolding viewed
+searched l p r e = record { entry = seen-viewed r ∙ ap (viewed l) e ∙ found-viewed l p .0; place = e; inside = within r (rw (← e) at (found-viewed l p .1)) }
+  where
+    seen-viewed : (r : Found) → seen l r ≡ viewed l (placeOf r)
+    seen-viewed Absent = refl
+    seen-viewed Directory = refl
+    seen-viewed (File a e) = refl
+
+    within : (r : Found) → InBytes l (placeOf r) → Inside l r
+    within Absent h = tt
+    within Directory h = tt
+    within (File a e) h = h

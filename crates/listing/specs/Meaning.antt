@@ -1,17 +1,18 @@
 -- What the types and answers of `listing` mean.
 use mathlib.Core.Path.{_≡_}
 use mathlib.Core.List.{List, [], _∷_}
-use Prim.Native.Nat.{ℕ, suc, _+_, _≤_}
+use Prim.Native.Nat.{ℕ, zero, suc, _+_, _*_, _≤_, _<_}
 use lib.Dec.{eqb}
-use lib.ListN.{length}
+use lib.ListN.{length, drop, getD}
 use Rattle.definition.specs.Text.{Text, if_then_else_, smaller}
-use Rattle.definition.specs.Listing.{Entry, noEntry, directoryEntry, fileEntry, entryAt}
+use Rattle.definition.specs.Listing.{Entry, noEntry, directoryEntry, fileEntry, Span, number32, entryCount, foundAt, placeAt}
 use Rattle.laws.specs.ListingSteps.{part, rowBy, rowsAt}
 use Rattle.listing.specs.declared.Found.{Found}
 use Rattle.listing.specs.declared.Found.the-variants.{Absent, Directory, File}
 use Rattle.listing.specs.declared.Attempt.{Attempt}
 use Rattle.listing.specs.declared.Attempt.the-variants.{Sure, Unsure}
 use Rattle.listing.specs.declared.Place.{Place}
+use Rattle.listing.specs.declared.Words.{Words}
 use Rattle.listing.specs.declared.Parting.{Parting}
 use Rattle.listing.specs.declared.Parting.the-variants.{Up, Down}
 
@@ -26,14 +27,30 @@ Inside l Absent = Unit {0}
 Inside l Directory = Unit {0}
 Inside l (File a e) = (a ≤ e) × (e ≤ length l)
 
+-- the same by the places alone
+abbrev pub placeOf : Found → Entry Span
+placeOf Absent = noEntry
+placeOf Directory = directoryEntry
+placeOf (File a e) = fileEntry (record { start = a; end = e })
+
+-- what is found and where it stands, of empty contents too: the definition's search
 pub record Searched (l : List ℕ) (p : Text) (r : Found) : Type 0 where
-  pub entry : seen l r ≡ entryAt l p
+  pub entry : seen l r ≡ foundAt l p
+  pub place : placeOf r ≡ placeAt l p
   pub inside : Inside l r
 
 -- what a search over unclamped lengths says, where it is sure
 abbrev pub Attempted : List ℕ → Text → Attempt → Type 0
-Attempted l p (Sure f) = Searched l p f
+Attempted l p (Sure f) = placeOf f ≡ placeAt l p
 Attempted l p Unsure = Unit {0}
+
+-- lengths of 32 bits that were added up unclamped, for i of at most 1,024 entries whose tables lie within the bytes
+pub record Reached (l : List ℕ) (n i at : ℕ) : Type 0 where
+  pub count : n ≡ entryCount l
+  pub few : n ≤ 1024
+  pub tables : 8 + 8 * n ≤ length l
+  pub index : i ≤ n
+  pub small : at ≤ 8 + 8 * n + i * 8589934592
 
 -- the first of the entries from the i-th on, where its path begins at `at`
 pub record Placed (l : List ℕ) (i at : ℕ) (p : Place) : Type 0 where
@@ -41,6 +58,25 @@ pub record Placed (l : List ℕ) (i at : ℕ) (p : Place) : Type 0 where
   pub ends : p .end ≤ p .next
   pub inside : p .next ≤ length l
   pub rows : rowsAt l i at ≡ rowBy l at (p .end) (p .next) (p .directory) ∷ rowsAt l (i + 1) (p .next)
+
+-- n bytes behind an a as a number, the first the highest
+abbrev pub highFirst : ℕ → ℕ → List ℕ → ℕ
+highFirst zero a s = a
+highFirst (suc n) a s = highFirst n (a * 256 + getD s 0 0) (drop 1 s)
+
+-- a text's eight bytes at k as a number, the first the lowest; no matter what where it has not so many
+abbrev pub LowWord : List ℕ → ℕ → ℕ → Type 0
+LowWord q k w = k + 8 ≤ length q → w ≡ number32 (drop k q) + 4294967296 * number32 (drop (k + 4) q)
+
+-- the first 32 bytes of a text, eight in a number; what is missing counts as zeros
+pub record WordsOf (q : List ℕ) (w : Words) : Type 0 where
+  pub bytes : (i : ℕ) → getD q i 0 < 256
+  pub isStart : LowWord q 0 (w .start)
+  pub isNext : LowWord q 8 (w .next)
+  pub first : w .first ≡ highFirst 8 0 (drop 0 q)
+  pub second : w .second ≡ highFirst 8 0 (drop 8 q)
+  pub third : w .third ≡ highFirst 8 0 (drop 16 q)
+  pub fourth : w .fourth ≡ highFirst 8 0 (drop 24 q)
 
 -- how many bytes both texts begin with
 unfoldable pub sharedLength : Text → Text → ℕ

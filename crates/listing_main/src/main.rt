@@ -326,6 +326,44 @@ fn searches_of(lines: &[u8], less: usize, table: &[u8]) -> usize {
     searches(&l[0..short], table)
 }
 
+// Whether a file's contents stand there.
+fn stands(lines: &[u8], path: &[u8], start: usize, end: usize) -> bool {
+    let mut l = [0u8; 4096];
+    let last = build(&mut l, lines);
+    if last > 4096 {
+        return false;
+    }
+    let f = listing::search(&l[0..last], path);
+    match f {
+        Found::Absent => false,
+        Found::Directory => false,
+        Found::File { start: a, end: e } => {
+            if a != start {
+                return false;
+            }
+            e == end
+        }
+    }
+}
+
+// Two files with contents between two without.
+fn places() -> usize {
+    let lines = b"d/\nf/a\nf/b=xy\nf/c=z\nf/d\n";
+    if !stands(lines, b"/a", 51, 51) {
+        return 0;
+    }
+    if !stands(lines, b"/b", 53, 55) {
+        return 1;
+    }
+    if !stands(lines, b"/c", 57, 58) {
+        return 2;
+    }
+    if !stands(lines, b"/d", 60, 60) {
+        return 3;
+    }
+    4
+}
+
 // A good listing with another number at one place; one byte more or less at its end.
 fn altered(at: usize, x: usize, more: usize) -> u8
     requires { ⌜ (at < 100) × (more < 3) ⌝ }
@@ -488,6 +526,67 @@ fn main() {
         ),
         3,
     );
+    // the arrays: a first mark that is whole, one byte short, and missing
+    report(
+        b"search, cut in marks",
+        searches_of(printed, 180, b"1\n0/\n0/p\n"),
+        3,
+    );
+    report(
+        b"search, cut in a mark",
+        searches_of(printed, 181, b"2\n0/\n"),
+        2,
+    );
+    report(
+        b"search, cut in lengths",
+        searches_of(printed, 190, b"2\n0/\n0/p\n"),
+        3,
+    );
+    // paths that do not rise: the first path not below the one sought decides
+    report(
+        b"search, falling",
+        searches_of(b"d/\nf/c\nf/b\nf/a\n", 0, b"1/\n2/c\n0/b\n0/a\n0/d\n"),
+        5,
+    );
+    report(
+        b"search, equal paths",
+        searches_of(
+            b"d/\nf/a=x\nf/a=y\nd/b\nf/b=z\nf/a=x\n",
+            0,
+            b"2/a=x\n1/b\n0/c\n",
+        ),
+        3,
+    );
+    report(
+        b"search, beginnings",
+        searches_of(
+            b"f/ab=x\nf/a=y\nf/abc=z\n",
+            0,
+            b"2/ab=x\n0/a\n2/abc=z\n0/abcd\n0/\n",
+        ),
+        5,
+    );
+    report(
+        b"search, empty paths first",
+        searches_of(b"f=x\nf=y\nd/\n", 0, b"2=x\n1/\n"),
+        2,
+    );
+    report(
+        b"search, an empty path last",
+        searches_of(b"d/\nf=x\n", 0, b"0\n1/\n"),
+        2,
+    );
+    // over 32 bytes in common
+    report(
+        b"search, far in common",
+        searches_of(
+            b"f/p/node_modules/element-beam/lib/b.js=x\nf/p/node_modules/element-beam/lib/a.js=y\nf/p/node_modules/element-beam/lib/c.js=z\n",
+            0,
+            b"2/p/node_modules/element-beam/lib/b.js=x\n0/p/node_modules/element-beam/lib/a.js\n2/p/node_modules/element-beam/lib/c.js=z\n0/p/node_modules/element-beam/lib\n",
+        ),
+        4,
+    );
+    report(b"search, places", places(), 4);
     report(b"search, no bytes", searches(b"", b"0/\n0\n"), 2);
     report(b"search, one byte", searches(b"\x01", b"0/\n2\n"), 2);
 }
