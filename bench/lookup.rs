@@ -30,6 +30,9 @@ use std::time::Instant;
 use trees::Job;
 
 const ROUNDS: usize = 40;
+/// Limits of consults: the gateway's, which stops no bare name, and the preview's.
+const GATEWAY: u32 = 18_777;
+const PREVIEW: u32 = 512;
 
 /// Nanoseconds for one question, the mean over a job's questions.
 #[derive(Clone, Copy, Default)]
@@ -63,14 +66,14 @@ fn best(questions: usize, mut round: impl FnMut()) -> f64 {
     best * 1e9 / questions as f64
 }
 
-/// Times the product; `specifier` and `work` may make every call a refusal.
-fn time_product(job: &Job, rooms: Rooms, specifier: Option<&[u8]>) -> f64 {
+/// Times the product; `specifier`, `limit` and `work` may make every call a refusal.
+fn time_product(job: &Job, rooms: Rooms, specifier: Option<&[u8]>, limit: u32) -> f64 {
     let (listing, settings) = (lent::lay(&lent::rows(&job.tree)), lent::lay_settings(&job.settings));
     let mut left = Left::filled(rooms, 0);
     best(job.questions.len(), || {
         for (start, name) in &job.questions {
             let specifier = specifier.unwrap_or(name.as_bytes());
-            left.ask(Question { listing: &listing, settings: &settings, start: start.as_bytes(), specifier });
+            left.ask(Question { listing: &listing, settings: &settings, start: start.as_bytes(), specifier, limit });
             std::hint::black_box(&left);
         }
     })
@@ -103,7 +106,7 @@ fn time_rust(_: &Job, _: &mut Figures) {}
 fn rooms(job: &Job) -> Rooms {
     let mut rooms = Rooms { result: 6_157, numbers: 0, list: 0, work: 32_768 };
     for (start, specifier) in &job.questions {
-        let list = model::lookup(&job.tree, &job.settings, start.as_bytes(), specifier.as_bytes()).list;
+        let list = model::lookup(&job.tree, &job.settings, start.as_bytes(), specifier.as_bytes(), usize::MAX).list;
         let text: usize = list.iter().map(|consult| consult.path.len()).sum();
         rooms.numbers = rooms.numbers.max(2 * (2 + 2 * list.len()));
         rooms.list = rooms.list.max(2 * text);
@@ -113,9 +116,9 @@ fn rooms(job: &Job) -> Rooms {
 
 fn time(job: &Job) -> Figures {
     let rooms = rooms(job);
-    let clearing = time_product(job, Rooms { work: rooms.work - 1, ..rooms }, None);
-    let checked = time_product(job, rooms, Some(b""));
-    let call = time_product(job, rooms, None);
+    let clearing = time_product(job, Rooms { work: rooms.work - 1, ..rooms }, None, GATEWAY);
+    let checked = time_product(job, rooms, Some(b""), GATEWAY);
+    let call = time_product(job, rooms, None, GATEWAY);
     let mut figures = Figures { call, clearing, check: checked - clearing, ..Figures::default() };
     time_rust(job, &mut figures);
     figures
@@ -127,14 +130,15 @@ fn examine(job: &Job) -> (usize, [usize; 8]) {
     let (mut consults, mut answers) = (0, [0; 8]);
     let mut left = Left::filled(rooms(job), 0);
     for (start, specifier) in &job.questions {
-        left.ask(Question { listing: &listing, settings: &settings, start: start.as_bytes(), specifier: specifier.as_bytes() });
+        let (start_bytes, specifier_bytes) = (start.as_bytes(), specifier.as_bytes());
+        left.ask(Question { listing: &listing, settings: &settings, start: start_bytes, specifier: specifier_bytes, limit: GATEWAY });
         assert!(left.number < 8, "{} from {start} was refused as {}", specifier, left.number);
         consults += left.numbers[0] as usize;
         answers[left.number as usize] += 1;
         #[cfg(rust)]
         {
             let (end, list) = rust::ask(&job.tree, &job.settings, start.as_bytes(), specifier.as_bytes()).unwrap();
-            let texts = &left.result[..left.lengths.iter().sum::<u32>() as usize];
+            let texts = &left.result[..left.counts[..3].iter().sum::<u32>() as usize];
             assert!(
                 end.number == left.number && end.texts.concat() == texts && list.len() == left.numbers[0] as usize,
                 "{specifier} differs"
@@ -177,16 +181,19 @@ fn compare(jobs: &[Job]) -> Vec<Figures> {
         .collect()
 }
 
-/// The longest lists that were found, by the depth of the start: time against consults times entries.
+/// The longest lists that were found, by the depth of the start: time against consults times entries, and what a preview takes, which stops
+/// at its limit.
 fn lists() {
-    println!("\n| start's depth | entries | consults | product, ns | Rust fresh, ns | ns for each consult and entry |");
-    println!("|---|---|---|---|---|---|");
+    println!("\n| start's depth | entries | consults | product, ns | Rust fresh, ns | ns for each consult and entry | preview, ns | preview / whole |");
+    println!("|---|---|---|---|---|---|---|---|");
     for depth in [4, 8, 16, 24, 32] {
         let job = trees::longest(depth);
         let figures = time(&job);
         let (consults, entries) = (examine(&job).0, job.tree.len());
         let each = figures.call / (consults * entries) as f64;
-        println!("| {depth} | {entries} | {consults} | {:.0} | {:.0} | {each:.3} |", figures.call, figures.fresh);
+        let preview = time_product(&job, rooms(&job), None, PREVIEW);
+        let (call, fresh) = (figures.call, figures.fresh);
+        println!("| {depth} | {entries} | {consults} | {call:.0} | {fresh:.0} | {each:.3} | {preview:.0} | {:.2} |", preview / call);
     }
 }
 

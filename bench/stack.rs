@@ -30,7 +30,8 @@ pub fn used(job: &Job) -> usize {
     let mut ask = || {
         let questions = job.questions.iter();
         let bytes = questions.map(|(start, specifier)| {
-            call(&mut left, Question { listing: &listing, settings: &settings, start: start.as_bytes(), specifier: specifier.as_bytes() })
+            let (start, specifier) = (start.as_bytes(), specifier.as_bytes());
+            call(&mut left, Question { listing: &listing, settings: &settings, start, specifier, limit: 18_777 })
         });
         bytes.max().unwrap_or(0)
     };

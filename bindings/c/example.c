@@ -1,4 +1,5 @@
-/* Asks the question of the files tree, settings and question in the folder that is given, and prints number, texts and consulted paths.
+/* Asks the question of the files tree, settings and question in the folder that is given, within the limit that is given behind it, and prints
+ * number, texts and consulted paths; of a refusal, its number and how many paths were consulted.
  * Build and run: bindings/c/test */
 #include "hannuvozh.h"
 #include <stdio.h>
@@ -23,14 +24,14 @@ static size_t load(const char *folder, const char *name, uint8_t *buffer, size_t
 }
 
 /* Each text after a space; the query and fragment of a found file join its path. */
-static void print_answer(uint32_t number, const uint32_t lengths[3]) {
+static void print_answer(uint32_t number, const uint32_t counts[HANNUVOZH_COUNTS]) {
     static const int texts[] = {3, 1, 1, 3, 2, 1, 1, 1};
     const uint8_t *at = result;
     printf("%u", (unsigned)number);
     for (int i = 0; i < texts[number]; i++) {
         if (i == 0 || number != HANNUVOZH_FOUND) putchar(' ');
-        fwrite(at, 1, lengths[i], stdout);
-        at += lengths[i];
+        fwrite(at, 1, counts[i], stdout);
+        at += counts[i];
     }
     putchar('\n');
 }
@@ -55,14 +56,16 @@ int main(int count, char **arguments) {
     const uint8_t *specifier = newline == NULL ? question + question_length : newline + 1;
     size_t specifier_length = question_length - (size_t)(specifier - question);
 
-    uint32_t lengths[3];
-    uint32_t number = hannuvozh_lookup(tree, tree_length, settings, settings_length, question, start_length, specifier, specifier_length,
-                                       result, sizeof result, numbers, HANNUVOZH_NUMBERS_ENOUGH, text, sizeof text, work, sizeof work, lengths);
+    uint32_t limit = count > 2 ? (uint32_t)strtoul(arguments[2], NULL, 10) : HANNUVOZH_GATEWAY_LIMIT;
+
+    uint32_t counts[HANNUVOZH_COUNTS];
+    uint32_t number = hannuvozh_lookup(tree, tree_length, settings, settings_length, question, start_length, specifier, specifier_length, limit,
+                                       result, sizeof result, numbers, HANNUVOZH_NUMBERS_ENOUGH, text, sizeof text, work, sizeof work, counts);
     if (number > HANNUVOZH_JSON) {
-        printf("%u\n", (unsigned)number);
+        printf("%u, %u consults\n", (unsigned)number, (unsigned)counts[HANNUVOZH_CONSULTS]);
         return 2;
     }
-    print_answer(number, lengths);
+    print_answer(number, counts);
     print_list();
     return number == HANNUVOZH_FOUND ? 0 : 1;
 }

@@ -15,7 +15,7 @@
 extern "C" {
 #endif
 
-/* Answers. The texts stand in `result` one after another; `lengths` has the length of each, 0 where there is none. */
+/* Answers. The texts stand in `result` one after another; `counts` begins with the length of each, 0 where there is none. */
 enum {
     HANNUVOZH_FOUND = 0,                            /* path, query, fragment (a missing one is empty) */
     HANNUVOZH_NOT_FOUND = 1,                        /* specifier: no file fits the name */
@@ -27,7 +27,7 @@ enum {
     HANNUVOZH_JSON = 7                              /* manifest path: the manifest is no JSON text */
 };
 
-/* Refusals. Every output buffer, work memory and `lengths` then hold zeros. */
+/* Refusals. Every output buffer and work memory then hold zeros, and so do the lengths in `counts`. */
 enum {
     /* the caller can mend these */
     HANNUVOZH_RESULT_TOO_SHORT = 20, /* result is shorter than the answer's texts */
@@ -43,7 +43,25 @@ enum {
     /* the package author can mend these; they are met only in what this lookup reads or builds */
     HANNUVOZH_MANIFEST_LIMIT = 40, /* a manifest is over a limit */
     HANNUVOZH_MEMBER_TWICE = 41,   /* a manifest has a member name twice in one object */
-    HANNUVOZH_PATH_TOO_LONG = 42   /* a path or target has over 2,048 bytes */
+    HANNUVOZH_PATH_TOO_LONG = 42,  /* a path or target has over 2,048 bytes */
+    /* the caller can mend this one: a larger limit, or none but the gateway's */
+    HANNUVOZH_TOO_MANY_CONSULTS = 53 /* the lookup needs more consults than its limit */
+};
+
+/* Two limits of consults that have a name; every other number is a limit too, and 0 refuses the first consult. A lookup that finishes within a
+ * limit gives the same within every larger one. */
+enum {
+    HANNUVOZH_GATEWAY_LIMIT = 18777, /* no bare name needs more */
+    HANNUVOZH_PREVIEW_LIMIT = 512    /* for a preview that asks while somebody types */
+};
+
+/* What stands in `counts`. */
+enum {
+    HANNUVOZH_FIRST_LENGTH = 0,
+    HANNUVOZH_SECOND_LENGTH = 1,
+    HANNUVOZH_THIRD_LENGTH = 2,
+    HANNUVOZH_CONSULTS = 3, /* how many consults were made: 0 where the lookup did not begin, the limit with 53, else all of them */
+    HANNUVOZH_COUNTS = 4    /* how many counts there are */
 };
 
 /* States of consulted paths, in list_numbers. */
@@ -58,10 +76,9 @@ enum {
 enum {
     HANNUVOZH_WORK_LENGTH = 32768,                  /* work needs at least this */
     HANNUVOZH_RESULT_ENOUGH = 6157,                 /* a result of this length is never too short */
-    HANNUVOZH_MOST_CONSULTS = 18777,                /* no list has more consults */
-    HANNUVOZH_NUMBERS_ENOUGH = 2 + 2 * 18777,       /* list_numbers of this length are never too short */
+    HANNUVOZH_NUMBERS_ENOUGH = 2 + 2 * HANNUVOZH_GATEWAY_LIMIT, /* within the gateway's limit, list_numbers of this length are never too short */
     HANNUVOZH_LONGEST_PATH = 2048,                  /* no consulted path is longer, so list_text of */
-    HANNUVOZH_LIST_TEXT_ENOUGH = 18777 * 2048       /* this length is never too short; most lists need a few hundred bytes */
+    HANNUVOZH_LIST_TEXT_ENOUGH = HANNUVOZH_GATEWAY_LIMIT * 2048 /* this length is never too short then; most lists need a few hundred bytes */
 };
 
 /* Limits of the inputs. */
@@ -91,17 +108,18 @@ enum {
  * The first four buffers are read only. The others are written to from end to end, whatever stands in them: an answer's texts and list with zeros
  * behind them, or zeros alone; work always ends as zeros. LENT BUFFERS MAY NOT OVERLAP, not even partly, and a length of 0 still needs a pointer
  * that is not null. list_numbers_length counts numbers, every other length bytes. list_numbers holds the list's count, the length of its text, then
- * count path lengths, then count states; list_text holds the paths, one after another.
+ * count path lengths, then count states; list_text holds the paths, one after another. `limit` is how many consults the lookup may make.
  */
 uint32_t hannuvozh_lookup(const uint8_t *listing, size_t listing_length,
                           const uint8_t *settings, size_t settings_length,
                           const uint8_t *start, size_t start_length,
                           const uint8_t *specifier, size_t specifier_length,
+                          uint32_t limit,
                           uint8_t *result, size_t result_length,
                           uint32_t *list_numbers, size_t list_numbers_length,
                           uint8_t *list_text, size_t list_text_length,
                           uint8_t *work, size_t work_length,
-                          uint32_t lengths[3]);
+                          uint32_t counts[HANNUVOZH_COUNTS]);
 
 #ifdef __cplusplus
 }

@@ -21,12 +21,18 @@ pub enum Room {
     Work(usize),
 }
 
+/// The two limits that have a name: the gateway's, which no bare name passes, and the preview's.
+pub const GATEWAY: u32 = 18_777;
+pub const PREVIEW: u32 = 512;
+
 #[derive(Clone, Hash)]
 pub struct Case {
     pub listing: Vec<u8>,
     pub settings: Vec<u8>,
     pub start: Vec<u8>,
     pub specifier: Vec<u8>,
+    /// How many consults the lookup may make.
+    pub limit: u32,
     pub room: Room,
     /// The number that this case must give, where it was made to give one.
     pub stated: Option<u32>,
@@ -34,7 +40,8 @@ pub struct Case {
 
 impl Case {
     pub fn question(&self) -> Question<'_> {
-        Question { listing: &self.listing, settings: &self.settings, start: &self.start, specifier: &self.specifier }
+        let Self { listing, settings, start, specifier, .. } = self;
+        Question { listing, settings, start, specifier, limit: self.limit }
     }
 
     /// The length of the lent work memory.
@@ -63,13 +70,15 @@ impl World {
             settings: lay_settings(&self.settings),
             start: self.start.clone(),
             specifier: self.specifier.clone(),
+            limit: GATEWAY,
             room: Room::More(0),
             stated: None,
         }
     }
 
+    /// The lookup where nothing limits it.
     pub fn walked(&self) -> model::Walked {
-        model::lookup(&self.tree, &self.settings, &self.start, &self.specifier)
+        model::lookup(&self.tree, &self.settings, &self.start, &self.specifier, usize::MAX)
     }
 
     pub fn add_directory(&mut self, path: &[u8]) {
@@ -116,7 +125,20 @@ pub fn case(seed: u64, number: u64) -> Case {
     }
 }
 
-/// The case with buffers longer than needed, just long enough, or short.
+/// The limit of a lookup that needs so many consults: mostly the gateway's; else exactly enough, one less, one more, or any.
+fn limit(needed: usize, rng: &mut Rng) -> u32 {
+    let needed = needed as u32;
+    match rng.below(20) {
+        0 => needed,
+        1 => needed.saturating_sub(1),
+        2 => rng.one(&[needed + 1, PREVIEW, u32::MAX]),
+        3 => rng.below(needed as usize + 2) as u32,
+        4 => rng.below(3) as u32,
+        _ => GATEWAY,
+    }
+}
+
+/// The case with buffers longer than needed, just long enough, or short, and within a limit of consults.
 fn with_room(world: &World, rng: &mut Rng) -> Case {
     let mut case = world.case();
     let short = if rng.chance(50) { 1 } else { rng.within(1, 400) };
@@ -128,12 +150,17 @@ fn with_room(world: &World, rng: &mut Rng) -> Case {
         _ => (Room::More(0), None),
     };
     // 20 and 21 follow the lookup: its own refusals come first, and an empty text is never too long.
-    let end = world.walked().end;
+    let walked = world.walked();
+    let end = walked.end;
     if case.stated == Some(20) && end.texts.concat().is_empty() {
         case.stated = None;
     }
     if end.is_refusal() {
         case.stated = case.stated.map(|_| end.number);
+    }
+    case.limit = limit(walked.list.len(), rng);
+    if (case.limit as usize) < walked.list.len() {
+        case.stated = Some(53);
     }
     case
 }

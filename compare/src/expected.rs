@@ -1,5 +1,5 @@
 //! What a call must leave, worked out without the product: refusals before the lookup from document 01's words, the answer and
-//! list from the Rust, refusals 40 to 42 from the harness's own walk, and 20 and 21 from the buffers' lengths.
+//! list from the Rust, refusals 40 to 42 from the harness's own walk, 53 from the length of the list, and 20 and 21 from the buffers' lengths.
 
 use crate::cases::{Case, Room};
 use crate::lent::{Settings, Tree, is_specifier, read_listing, read_settings};
@@ -41,30 +41,29 @@ pub enum By {
     Json,
     /// The harness's own walk, the Rust not being at hand.
     Walk,
+    /// The limit of consults: the list without it is longer.
+    Limit,
 }
 
 pub struct Expected {
     pub end: End,
+    /// The consults that were made, by a refused lookup too.
     pub list: Vec<Consult>,
     pub by: By,
     /// What the lookup reached; none where it was not begun.
     pub marks: Option<Marks>,
 }
 
-fn refused(number: u32, marks: Option<Marks>) -> Expected {
-    Expected { end: End { number, texts: Vec::new() }, list: Vec::new(), by: By::Scope, marks }
-}
-
 fn same_lists(one: &[Consult], other: &[Consult]) -> bool {
     one.len() == other.len() && one.iter().zip(other).all(|(a, b)| a.state == b.state && a.path == b.path)
 }
 
-/// The lookup's answer and list, or its refusal; an error is a fault of the harness.
+/// The answer and list of the lookup without a limit, or its refusal; an error is a fault of the harness.
 fn looked_up(case: &Case, accepted: &Accepted, walked: Walked, beside_rust: bool) -> Result<Expected, String> {
-    if walked.end.is_refusal() {
-        return Ok(refused(walked.end.number, Some(walked.marks)));
-    }
     let marks = Some(walked.marks);
+    if walked.end.is_refusal() {
+        return Ok(Expected { end: walked.end, list: walked.list, by: By::Scope, marks });
+    }
     if !beside_rust {
         return Ok(Expected { end: walked.end, list: walked.list, by: By::Walk, marks });
     }
@@ -83,6 +82,22 @@ fn looked_up(case: &Case, accepted: &Accepted, walked: Walked, beside_rust: bool
     ))
 }
 
+/// The lookup within its limit: where the whole list is longer, it is refused as 53 with the first consults made; else nothing changes.
+fn limited(limit: usize, whole: Expected, walked: Walked) -> Result<Expected, String> {
+    let made = whole.list.len().min(limit);
+    if !same_lists(&walked.list, &whole.list[..made]) {
+        return Err(format!("a limit of {limit}, and other consults before it"));
+    }
+    if made < whole.list.len() {
+        let end = End { number: 53, texts: Vec::new() };
+        return Ok(Expected { end, list: walked.list, by: By::Limit, marks: Some(walked.marks) });
+    }
+    if walked.end != whole.end {
+        return Err(format!("a limit of {limit} that is not passed, and {:?} instead of {:?}", walked.end, whole.end));
+    }
+    Ok(whole)
+}
+
 /// What the case must give with long enough outputs; the Rust is asked where it is at hand.
 pub fn expected(case: &Case) -> Result<Expected, String> {
     decide(case, case.work(), rust::AT_HAND)
@@ -90,14 +105,17 @@ pub fn expected(case: &Case) -> Result<Expected, String> {
 
 pub fn decide(case: &Case, work: usize, beside_rust: bool) -> Result<Expected, String> {
     match accept(case, work) {
-        Err(number) => Ok(refused(number, None)),
+        Err(number) => Ok(Expected { end: End { number, texts: Vec::new() }, list: Vec::new(), by: By::Scope, marks: None }),
         Ok(accepted) => {
-            let walked = model::lookup(&accepted.tree, &accepted.settings, &case.start, &case.specifier);
+            let walk = |limit| model::lookup(&accepted.tree, &accepted.settings, &case.start, &case.specifier, limit);
+            let walked = walk(usize::MAX);
             let bound = model::formula(&accepted.tree, &accepted.settings, &case.start);
             if walked.list.len() > bound {
                 return Err(format!("a list of {} consults, over the formula's {bound}", walked.list.len()));
             }
-            looked_up(case, &accepted, walked, beside_rust)
+            let whole = looked_up(case, &accepted, walked, beside_rust)?;
+            let limit = case.limit as usize;
+            limited(limit, whole, walk(limit))
         }
     }
 }
@@ -130,6 +148,7 @@ pub fn rooms(expected: &Expected, room: Room) -> Rooms {
 /// What the call must leave in these buffers.
 pub fn left(expected: &Expected, rooms: Rooms) -> Left {
     let mut left = Left { number: expected.end.number, ..Left::filled(rooms, 0) };
+    left.counts[3] = expected.list.len() as u32;
     if expected.end.is_refusal() {
         return left;
     }
@@ -141,7 +160,7 @@ pub fn left(expected: &Expected, rooms: Rooms) -> Left {
     } else if 2 + 2 * count > rooms.numbers || list.len() > rooms.list {
         left.number = 21;
     } else {
-        for (length, text) in left.lengths.iter_mut().zip(&expected.end.texts) {
+        for (length, text) in left.counts.iter_mut().zip(&expected.end.texts) {
             *length = text.len() as u32;
         }
         left.result[..result.len()].copy_from_slice(&result);

@@ -58,7 +58,8 @@ fn shown(bytes: &[u8]) -> String {
 }
 
 fn print_case(case: &Case) {
-    println!("  start \"{}\" specifier \"{}\" room {:?} stated {:?}", shown(&case.start), shown(&case.specifier), case.room, case.stated);
+    let (start, specifier) = (shown(&case.start), shown(&case.specifier));
+    println!("  start \"{start}\" specifier \"{specifier}\" limit {} room {:?} stated {:?}", case.limit, case.room, case.stated);
     println!("  settings {}", shown(&case.settings));
     match lent::read_listing(&case.listing) {
         Err(number) => println!("  listing refused as {number}: {}", shown(&case.listing)),
@@ -72,7 +73,7 @@ fn print_case(case: &Case) {
 
 fn print_left(name: &str, left: &Left) {
     let end = left.result.iter().rposition(|&b| b != 0).map_or(0, |at| at + 1);
-    println!("  {name}: {} {:?} \"{}\"", left.number, left.lengths, shown(&left.result[..end]));
+    println!("  {name}: {} {:?} \"{}\"", left.number, left.counts, shown(&left.result[..end]));
     let count = left.numbers.first().map_or(0, |&n| n as usize);
     if 2 + 2 * count > left.numbers.len() {
         println!("    a count of {count} in {} list numbers", left.numbers.len());
@@ -141,6 +142,7 @@ impl Report {
             By::Rust => "the Rust",
             By::Json => "RFC 8259 or 01, on JSON, against the Rust",
             By::Walk => "the harness's own walk",
+            By::Limit => "the limit of consults, over the list of one of these",
         };
         *self.by.entry(by).or_default() += 1;
         self.longest = self.longest.max(expected.list.len());
@@ -168,7 +170,7 @@ impl Report {
 
 /// What a run of a million cases must at least have seen.
 fn wanted(report: &Report, count: u64) -> bool {
-    let numbers = [(0..=7, 5_000), (20..=25, 500), (30..=32, 500), (40..=42, 500)];
+    let numbers = [(0..=7, 5_000), (20..=25, 500), (30..=32, 500), (40..=42, 500), (53..=53, 20_000)];
     let mut good = true;
     for (range, least) in numbers {
         for number in range {

@@ -1,4 +1,4 @@
-//! The lookup in plain steps, for what the Rust cannot tell: where a lookup meets refusals 40, 41 and 42, and which routines and
+//! The lookup in plain steps, for what the Rust cannot tell: where a lookup meets refusals 40, 41, 42 and 53, and which routines and
 //! branches a case reaches. It is trusted with neither alone: on every case without such a refusal its answer and list must be
 //! the Rust's own.
 //!
@@ -38,8 +38,9 @@ pub struct Walked {
     pub marks: Marks,
 }
 
-pub fn lookup(tree: &Tree, settings: &Settings, start: &[u8], specifier: &[u8]) -> Walked {
-    let mut walk = Walk { tree, settings, list: Vec::new(), marks: no_marks(), read: Vec::new() };
+/// The lookup, which may make `limit` consults.
+pub fn lookup(tree: &Tree, settings: &Settings, start: &[u8], specifier: &[u8], limit: usize) -> Walked {
+    let mut walk = Walk { tree, settings, limit, list: Vec::new(), marks: no_marks(), read: Vec::new() };
     let end = match walk.load_package_self_or_node_modules(start, specifier) {
         Err(end) => end,
         Ok(never) => match never {},
@@ -89,6 +90,7 @@ struct Request<'a> {
 struct Walk<'a> {
     tree: &'a Tree,
     settings: &'a Settings,
+    limit: usize,
     list: Vec<Consult>,
     marks: Marks,
     /// Manifests already taken apart, by path.
@@ -120,22 +122,32 @@ impl Walk<'_> {
         }
     }
 
-    fn consult(&mut self, path: &[u8]) -> u8 {
+    /// One consult, or refusal 53 where the limit allows no more.
+    fn note(&mut self, state: u8, path: &[u8]) -> Look<()> {
+        if self.list.len() == self.limit {
+            self.mark(Point::TooManyConsults);
+            return Err(End::new(53, &[]));
+        }
+        self.list.push(Consult { state, path: path.to_vec() });
+        Ok(())
+    }
+
+    fn consult(&mut self, path: &[u8]) -> Look<u8> {
         let state = match self.tree.get(path) {
             None => 0,
             Some(None) => 1,
             Some(Some(_)) => 2,
         };
-        self.list.push(Consult { state, path: path.to_vec() });
-        state
+        self.note(state, path)?;
+        Ok(state)
     }
 
-    fn is_file(&mut self, path: &[u8]) -> bool {
-        self.consult(path) == 2
+    fn is_file(&mut self, path: &[u8]) -> Look<bool> {
+        Ok(self.consult(path)? == 2)
     }
 
-    fn is_dir(&mut self, path: &[u8]) -> bool {
-        self.consult(path) == 1
+    fn is_dir(&mut self, path: &[u8]) -> Look<bool> {
+        Ok(self.consult(path)? == 1)
     }
 
     /// Refusal 42: a path over 2,048 bytes.
@@ -185,10 +197,10 @@ impl Walk<'_> {
         for directory in directories(from) {
             let path = self.limited(manifest_of(directory))?;
             let Some(Some(contents)) = self.tree.get(&path) else {
-                self.consult(&path);
+                self.consult(&path)?;
                 continue;
             };
-            self.list.push(Consult { state: 3, path: path.clone() });
+            self.note(3, &path)?;
             let manifest = self.manifest(&path, contents)?;
             self.mark(Point::NearestFound);
             self.mark_if(directory != from, Point::NearestAbove);
@@ -260,11 +272,11 @@ impl Walk<'_> {
 
     fn load_node_modules(&mut self, start: &[u8], specifier: &[u8]) -> Look<()> {
         for (i, directory) in directories(start).into_iter().enumerate() {
-            if !self.is_dir(directory) {
+            if !self.is_dir(directory)? {
                 continue;
             }
             let modules = self.normalize_with(directory, b"node_modules")?;
-            if !self.is_dir(&modules) {
+            if !self.is_dir(&modules)? {
                 self.mark(Point::ModulesNoDirectory);
                 continue;
             }
@@ -279,14 +291,14 @@ impl Walk<'_> {
         let name = package_name(specifier);
         let subpath = &specifier[name.len()..];
         let package = self.normalize_with(modules, name)?;
-        if self.is_dir(&package) {
+        if self.is_dir(&package)? {
             self.mark(Point::ModulesPackage);
             self.load_package_exports(specifier, subpath, &package)?;
         } else if !subpath.is_empty() {
             self.mark(Point::ModulesSubpathSkipped);
             return Ok(());
         } else if name.starts_with(b"@") {
-            if !self.is_dir(parent(&package)) {
+            if !self.is_dir(parent(&package))? {
                 self.mark(Point::ModulesScopeSkipped);
                 return Ok(());
             }
@@ -301,7 +313,7 @@ impl Walk<'_> {
             self.load_as_file(&place)?;
         }
         self.mark_if(specifier.ends_with(b"/"), Point::FirstFileSkipped);
-        if self.is_dir(&place.path) {
+        if self.is_dir(&place.path)? {
             return self.load_as_directory(&place);
         }
         self.mark(Point::FileForNoDirectory);
@@ -322,7 +334,7 @@ impl Walk<'_> {
     }
 
     fn try_file(&mut self, place: &Place, point: Point) -> Look<()> {
-        if self.is_file(&place.path) {
+        if self.is_file(&place.path)? {
             self.mark(point);
             return Err(End::new(0, &[&place.path, &place.query, &place.fragment]));
         }
@@ -387,7 +399,7 @@ impl Walk<'_> {
         let as_file = self.load_as_file(place);
         self.mark_if(as_file.as_ref().is_err_and(|end| end.number == 0), Point::MatchFile);
         as_file?;
-        if self.is_dir(&place.path) {
+        if self.is_dir(&place.path)? {
             self.mark(Point::MatchDirectory);
             self.load_as_directory(place)?;
         }

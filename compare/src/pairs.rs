@@ -1,5 +1,5 @@
 //! Demand 3 on calls: two listings that agree at every path the first one's lookup consulted, whatever they hold elsewhere and
-//! exports maps of subpath keys reordered, must end alike to the last byte.
+//! exports maps of subpath keys reordered, must end alike to the last byte, stopped lookups and other refusals included.
 
 use crate::cases::{self, Case};
 use crate::expected;
@@ -143,13 +143,10 @@ struct Seen {
 }
 
 impl Seen {
-    /// One pair, if the case's lookup ends in an answer.
+    /// One pair, if the case's lookup begins; it may end in a refusal of its own, at the limit of consults too.
     fn pair(&mut self, case: &Case, rng: &mut Rng) {
         let Ok(accepted) = expected::accept(case, case.work()) else { return };
-        let walked = model::lookup(&accepted.tree, &accepted.settings, &case.start, &case.specifier);
-        if walked.end.is_refusal() {
-            return;
-        }
+        let walked = model::lookup(&accepted.tree, &accepted.settings, &case.start, &case.specifier, case.limit as usize);
         let around = Around { settings: &accepted.settings, specifier: &case.specifier };
         let mut other = Other { rng, settings: &accepted.settings, around, reordered: false };
         let tree = other.tree(&accepted.tree, &case.start, &walked);

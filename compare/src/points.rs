@@ -96,6 +96,7 @@ points! {
     ContextReplaced "with_query_fragment: replaced",
     PopAtRoot "normalize_with: .. at /",
     PathTooLong "normalize_with, extension, index: 42",
+    TooManyConsults "a consult more than the limit: 53",
     SecondWalk "load_package_self_or_node_modules: second walk",
     SecondWalkFound "load_package_self_or_node_modules: found in the second walk",
     ManifestBom "package_json: a byte order mark",

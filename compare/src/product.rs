@@ -21,13 +21,14 @@ pub struct Question<'a> {
     pub settings: &'a [u8],
     pub start: &'a [u8],
     pub specifier: &'a [u8],
+    pub limit: u32,
 }
 
-/// What a call leaves: its number, the lengths of its texts, and all of every buffer.
+/// What a call leaves: its number, the lengths of its texts and the consults that were made, and all of every buffer.
 #[derive(Clone, PartialEq, Eq)]
 pub struct Left {
     pub number: u32,
-    pub lengths: [u32; 3],
+    pub counts: [u32; 4],
     pub result: Vec<u8>,
     pub numbers: Vec<u32>,
     pub list: Vec<u8>,
@@ -40,7 +41,7 @@ impl Left {
         let number = u32::from_le_bytes([byte; 4]);
         Self {
             number,
-            lengths: [number; 3],
+            counts: [number; 4],
             result: vec![byte; rooms.result],
             numbers: vec![number; rooms.numbers],
             list: vec![byte; rooms.list],
@@ -49,7 +50,7 @@ impl Left {
     }
 
     pub fn ask(&mut self, question: Question) {
-        let Question { listing, settings, start, specifier } = question;
+        let Question { listing, settings, start, specifier, limit } = question;
         // SAFETY: each pointer goes with the length of its own buffer, and the buffers are apart.
         self.number = unsafe {
             hannuvozh_lookup(
@@ -61,6 +62,7 @@ impl Left {
                 start.len(),
                 specifier.as_ptr(),
                 specifier.len(),
+                limit,
                 self.result.as_mut_ptr(),
                 self.result.len(),
                 self.numbers.as_mut_ptr(),
@@ -69,7 +71,7 @@ impl Left {
                 self.list.len(),
                 self.work.as_mut_ptr(),
                 self.work.len(),
-                &raw mut self.lengths,
+                &raw mut self.counts,
             )
         };
     }

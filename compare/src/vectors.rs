@@ -2,7 +2,7 @@
 //! docs/VECTORS.md.
 
 use crate::broken;
-use crate::cases::{self, Case, Room};
+use crate::cases::{self, Case, GATEWAY, Room};
 use crate::expected::{self, Expected};
 use crate::lent::{read_listing, read_settings, word};
 use crate::points;
@@ -13,6 +13,8 @@ use std::collections::{BTreeMap, HashSet};
 
 /// In the place of a length: the same bytes as in the case before.
 const SAME: u32 = 0xFFFF_FFFF;
+/// The numbers that begin a case take this many bytes.
+const HEADER: usize = 60;
 
 /// How many cases are kept at least of each answer, each refusal, and each routine or branch.
 const OF_ANSWER: u64 = 80;
@@ -81,16 +83,14 @@ impl Chosen {
         let settings = self.lent(&case.settings, |chosen| &mut chosen.settings, &mut body);
         body.extend_from_slice(&case.start);
         body.extend_from_slice(&case.specifier);
-        let (list, count) = if want.number < 8 {
+        let mut list = Vec::new();
+        if want.number < 8 {
             body.extend(expected.end.texts.iter().flatten());
-            (packed_list(expected), expected.list.len())
-        } else {
-            (Vec::new(), 0)
-        };
-        let lent = [listing, settings, case.start.len() as u32, case.specifier.len() as u32];
-        let rooms = [rooms.result, rooms.numbers, rooms.list, rooms.work].map(|length| length as u32);
-        let answer = [want.number, want.lengths[0], want.lengths[1], want.lengths[2], count as u32, list.len() as u32];
-        for number in lent.into_iter().chain(rooms).chain(answer) {
+            list = packed_list(expected);
+        }
+        let lent = [listing, settings, case.start.len() as u32, case.specifier.len() as u32, case.limit];
+        let rooms = [rooms.result, rooms.numbers, rooms.list, rooms.work, want.number as usize].map(|length| length as u32);
+        for number in lent.into_iter().chain(rooms).chain(want.counts).chain([list.len() as u32]) {
             self.out.extend_from_slice(&number.to_le_bytes());
         }
         self.out.extend_from_slice(&body);
@@ -135,7 +135,7 @@ fn siblings(case: &Case, rng: &mut Rng) -> Vec<Case> {
     for _ in 0..9 {
         let specifier = if names.is_empty() || rng.chance(40) { cases::specifier(rng) } else { rng.pick(&names).clone() };
         let start = if rng.chance(50) { case.start.clone() } else { rng.pick(&starts).to_vec() };
-        all.push(Case { start, specifier, room: Room::More(0), stated: None, ..case.clone() });
+        all.push(Case { start, specifier, limit: GATEWAY, room: Room::More(0), stated: None, ..case.clone() });
     }
     all
 }
@@ -198,7 +198,7 @@ impl<'a> Reader<'a> {
     }
 
     fn case(&mut self) -> Option<(Case, Rooms, Left)> {
-        let header = self.take(56)?;
+        let header = self.take(HEADER)?;
         let number = |i: usize| word(header, 4 * i).unwrap_or(0);
         let length = |i: usize| number(i) as usize;
         if number(0) != SAME {
@@ -208,20 +208,22 @@ impl<'a> Reader<'a> {
             self.settings = self.take(length(1))?;
         }
         let (start, specifier) = (self.take(length(2))?, self.take(length(3))?);
-        let rooms = Rooms { result: length(4), numbers: length(5), list: length(6), work: length(7) };
-        let lengths = [number(9), number(10), number(11)];
-        let mut left = Left { number: number(8), lengths, ..Left::filled(rooms, 0) };
-        let result = self.take(lengths.iter().sum::<u32>() as usize)?;
+        let limit = number(4);
+        let rooms = Rooms { result: length(5), numbers: length(6), list: length(7), work: length(8) };
+        let counts = [10, 11, 12, 13].map(number);
+        let mut left = Left { number: number(9), counts, ..Left::filled(rooms, 0) };
+        let result = self.take(counts[..3].iter().sum::<u32>() as usize)?;
         left.result[..result.len()].copy_from_slice(result);
-        self.list(&mut left, length(12), length(13))?;
+        self.list(&mut left, length(14))?;
         let (start, specifier) = (start.to_vec(), specifier.to_vec());
         let (listing, settings) = (self.listing.to_vec(), self.settings.to_vec());
-        Some((Case { listing, settings, start, specifier, room: Room::More(0), stated: None }, rooms, left))
+        Some((Case { listing, settings, start, specifier, limit, room: Room::More(0), stated: None }, rooms, left))
     }
 
-    /// The packed list, spread into list numbers and list text.
-    fn list(&mut self, left: &mut Left, count: usize, bytes: usize) -> Option<()> {
+    /// The packed list, spread into list numbers and list text; a refusal has none.
+    fn list(&mut self, left: &mut Left, bytes: usize) -> Option<()> {
         let mut packed = self.take(bytes)?;
+        let count = if bytes > 0 { left.counts[3] as usize } else { 0 };
         let (mut before, mut at) = (0, 0);
         for i in 0..count {
             let (head, rest) = packed.split_at_checked(5)?;

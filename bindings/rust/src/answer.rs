@@ -136,9 +136,9 @@ impl fmt::Display for Answer {
 /// ```
 /// use hannuvozh::{Listing, Refusal, Settings, lookup};
 ///
-/// let refusal = lookup(&Listing::new().to_bytes(), &Settings::example().to_bytes(), "/", "./relative").unwrap_err();
-/// assert_eq!(refusal, Refusal::Specifier);
-/// assert_eq!((refusal.number(), refusal.cause()), (22, "the caller"));
+/// let refused = lookup(&Listing::new().to_bytes(), &Settings::example().to_bytes(), "/", "./relative").unwrap_err();
+/// assert_eq!(refused.refusal(), Refusal::Specifier);
+/// assert_eq!((refused.refusal().number(), refused.refusal().cause()), (22, "the caller"));
 /// ```
 #[derive(Clone, Copy, Debug, PartialEq, Eq)]
 pub enum Refusal {
@@ -166,10 +166,12 @@ pub enum Refusal {
     MemberTwice,
     /// 42: a path or target that the lookup builds has over 2,048 bytes.
     PathTooLong,
+    /// 53: the lookup wants to make one consult more than its limit.
+    TooManyConsults,
 }
 
 impl Refusal {
-    const ALL: [(u32, Self); 12] = [
+    const ALL: [(u32, Self); 13] = [
         (20, Self::ResultTooShort),
         (21, Self::ListTooShort),
         (22, Self::Specifier),
@@ -182,13 +184,14 @@ impl Refusal {
         (40, Self::ManifestLimit),
         (41, Self::MemberTwice),
         (42, Self::PathTooLong),
+        (53, Self::TooManyConsults),
     ];
 
     pub(crate) fn new(number: u32) -> Option<Self> {
         Self::ALL.iter().find(|known| known.0 == number).map(|known| known.1)
     }
 
-    /// The refusal's number, 20 to 42.
+    /// The refusal's number, 20 to 53.
     #[must_use]
     pub fn number(self) -> u32 {
         Self::ALL.iter().find(|known| known.1 == self).map_or(0, |known| known.0)
@@ -200,7 +203,8 @@ impl Refusal {
         match self.number() {
             20..30 => "the caller",
             30..40 => "the maker of the listing",
-            _ => "the package author",
+            40..50 => "the package author",
+            _ => "the caller",
         }
     }
 }
@@ -220,8 +224,46 @@ impl fmt::Display for Refusal {
             Self::ManifestLimit => "a package.json on the way is over a limit",
             Self::MemberTwice => "a package.json on the way has a member name twice in one object",
             Self::PathTooLong => "a path or target on the way has over 2,048 bytes",
+            Self::TooManyConsults => "the lookup needs more consults than its limit allows",
         })
     }
 }
 
 impl std::error::Error for Refusal {}
+
+/// A refused question: why there is no answer, and how many consults were made by then.
+#[derive(Clone, Copy, Debug, PartialEq, Eq)]
+pub struct Refused {
+    refusal: Refusal,
+    consults: u32,
+}
+
+impl Refused {
+    pub(crate) fn new(refusal: Refusal, consults: u32) -> Self {
+        Self { refusal, consults }
+    }
+
+    /// Why there is no answer.
+    #[must_use]
+    pub fn refusal(&self) -> Refusal {
+        self.refusal
+    }
+
+    /// How many consults were made: 0 where the question was refused before its lookup began, the limit where that stopped it.
+    #[must_use]
+    pub fn consults(&self) -> u32 {
+        self.consults
+    }
+}
+
+impl fmt::Display for Refused {
+    fn fmt(&self, f: &mut fmt::Formatter<'_>) -> fmt::Result {
+        self.refusal.fmt(f)
+    }
+}
+
+impl std::error::Error for Refused {
+    fn source(&self) -> Option<&(dyn std::error::Error + 'static)> {
+        Some(&self.refusal)
+    }
+}

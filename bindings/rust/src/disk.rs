@@ -1,4 +1,4 @@
-use crate::{Buffers, Listing, Lookup, Refusal, Settings, State};
+use crate::{Buffers, Listing, Lookup, Options, Refused, Settings, State};
 use std::fs;
 use std::io;
 use std::path::{Path, PathBuf};
@@ -9,7 +9,7 @@ pub struct Packed {
     /// The part of the folder that the lookup looked at.
     pub listing: Listing,
     /// The answer with its list, or the refusal.
-    pub outcome: Result<Lookup, Refusal>,
+    pub outcome: Result<Lookup, Refused>,
 }
 
 /// Asks about a folder on disk, of any size; the folder is the lookup's "/", and `start` a path in it.
@@ -35,7 +35,30 @@ pub struct Packed {
 /// # Ok::<(), std::io::Error>(())
 /// ```
 pub fn resolve(folder: impl AsRef<Path>, settings: &Settings, start: &str, specifier: &str) -> io::Result<Packed> {
-    let folder = folder.as_ref();
+    resolve_with(Options::new(), folder, settings, start, specifier)
+}
+
+/// As [`resolve`], with options. The limit counts the consults of the last lookup, whose listing is complete.
+///
+/// # Errors
+///
+/// As [`resolve`].
+pub fn resolve_with(
+    options: Options,
+    folder: impl AsRef<Path>,
+    settings: &Settings,
+    start: &str,
+    specifier: &str,
+) -> io::Result<Packed> {
+    let mut packed = grown(folder.as_ref(), settings, start, specifier)?;
+    if options != Options::new() {
+        packed.outcome = Buffers::new().lookup_with(options, &packed.listing.to_bytes(), &settings.to_bytes(), start, specifier);
+    }
+    Ok(packed)
+}
+
+/// The listing that has every path the lookup consults, and the outcome over it.
+fn grown(folder: &Path, settings: &Settings, start: &str, specifier: &str) -> io::Result<Packed> {
     let settings = settings.to_bytes();
     let mut listing = Listing::new();
     if entry(folder, start)?.is_some_and(|found| found.is_dir()) {

@@ -18,7 +18,7 @@
 //! ```
 //!
 //! An [`Answer`] is one of the lookup's own ends, 0 to 7; a [`Refusal`] says that the question itself, or a package on the way, breaks
-//! a rule or a limit. What the numbers mean, and who can mend what, stands in docs/GUIDE.md.
+//! a rule or a limit. [`Options`] set the limit of consults. What the numbers mean, and who can mend what, stands in docs/GUIDE.md.
 //!
 //! The lookup is pure: the same bytes give the same answer and the same list of consulted paths, and it keeps nothing between calls.
 
@@ -27,10 +27,12 @@ mod disk;
 mod library;
 mod listing;
 mod lookup;
+mod options;
 mod settings;
 
-pub use answer::{Answer, Refusal};
-pub use disk::{Packed, resolve};
+pub use answer::{Answer, Refusal, Refused};
+pub use disk::{Packed, resolve, resolve_with};
 pub use listing::Listing;
-pub use lookup::{Buffers, Consult, Consults, Lookup, State, lookup};
+pub use lookup::{Buffers, Consult, Consults, Lookup, State, lookup, lookup_with};
+pub use options::Options;
 pub use settings::Settings;

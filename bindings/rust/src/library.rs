@@ -10,6 +10,7 @@ unsafe extern "C" {
         start_length: usize,
         specifier: *const u8,
         specifier_length: usize,
+        limit: u32,
         result: *mut u8,
         result_length: usize,
         list_numbers: *mut u32,
@@ -18,6 +19,6 @@ unsafe extern "C" {
         list_text_length: usize,
         work: *mut u8,
         work_length: usize,
-        lengths: *mut [u32; 3],
+        counts: *mut [u32; 4],
     ) -> u32;
 }

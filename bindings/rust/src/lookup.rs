@@ -1,5 +1,5 @@
 use crate::library::hannuvozh_lookup;
-use crate::{Answer, Refusal};
+use crate::{Answer, Options, Refusal, Refused};
 use std::fmt;
 use std::fmt::Write as _;
 
@@ -7,7 +7,7 @@ use std::fmt::Write as _;
 const RESULT: usize = 6_157;
 const WORK: usize = 32_768;
 /// No list has more consults, and no consulted path more bytes.
-const MOST_CONSULTS: usize = 18_777;
+const MOST_CONSULTS: usize = Options::GATEWAY as usize;
 const MOST_PATH: usize = 2_048;
 
 /// Asks one question. Each buffer is as long as it needs to be.
@@ -18,8 +18,35 @@ const MOST_PATH: usize = 2_048;
 /// # Errors
 ///
 /// The refusal, where the question or a package on the way breaks a rule or a limit.
-pub fn lookup(listing: &[u8], settings: &[u8], start: impl AsRef<[u8]>, specifier: impl AsRef<[u8]>) -> Result<Lookup, Refusal> {
-    Buffers::new().lookup(listing, settings, start, specifier)
+pub fn lookup(listing: &[u8], settings: &[u8], start: impl AsRef<[u8]>, specifier: impl AsRef<[u8]>) -> Result<Lookup, Refused> {
+    lookup_with(Options::new(), listing, settings, start, specifier)
+}
+
+/// As [`lookup`], with options: the preview's limit of consults, say.
+///
+/// ```
+/// use hannuvozh::{Listing, Options, Refusal, Settings, lookup_with};
+///
+/// let (listing, settings) = (Listing::new().file("/node_modules/a/index.js").to_bytes(), Settings::example().to_bytes());
+/// let looked = lookup_with(Options::preview(), &listing, &settings, "/", "a").unwrap();
+/// let needed = looked.consults().len() as u32;
+/// assert_eq!(lookup_with(Options::new().limit(needed), &listing, &settings, "/", "a").unwrap(), looked);
+///
+/// let stopped = lookup_with(Options::new().limit(needed - 1), &listing, &settings, "/", "a").unwrap_err();
+/// assert_eq!((stopped.refusal(), stopped.consults()), (Refusal::TooManyConsults, needed - 1));
+/// ```
+///
+/// # Errors
+///
+/// As [`lookup`].
+pub fn lookup_with(
+    options: Options,
+    listing: &[u8],
+    settings: &[u8],
+    start: impl AsRef<[u8]>,
+    specifier: impl AsRef<[u8]>,
+) -> Result<Lookup, Refused> {
+    Buffers::new().lookup_with(options, listing, settings, start, specifier)
 }
 
 /// Buffers that many lookups can share, so that memory is asked for once.
@@ -33,7 +60,7 @@ pub fn lookup(listing: &[u8], settings: &[u8], start: impl AsRef<[u8]>, specifie
 /// for (specifier, number) in [("a", 0), ("b", 1)] {
 ///     assert_eq!(buffers.lookup(&listing, &settings, "/", specifier)?.answer().number(), number);
 /// }
-/// # Ok::<(), hannuvozh::Refusal>(())
+/// # Ok::<(), hannuvozh::Refused>(())
 /// ```
 #[derive(Clone, Debug)]
 pub struct Buffers {
@@ -67,14 +94,31 @@ impl Buffers {
         settings: &[u8],
         start: impl AsRef<[u8]>,
         specifier: impl AsRef<[u8]>,
-    ) -> Result<Lookup, Refusal> {
+    ) -> Result<Lookup, Refused> {
+        self.lookup_with(Options::new(), listing, settings, start, specifier)
+    }
+
+    /// Asks one question, as [`lookup_with`] does.
+    ///
+    /// # Errors
+    ///
+    /// As [`lookup`].
+    pub fn lookup_with(
+        &mut self,
+        options: Options,
+        listing: &[u8],
+        settings: &[u8],
+        start: impl AsRef<[u8]>,
+        specifier: impl AsRef<[u8]>,
+    ) -> Result<Lookup, Refused> {
         loop {
-            let (number, lengths) = self.call(listing, settings, start.as_ref(), specifier.as_ref());
+            let (number, counts) = self.call(options, listing, settings, start.as_ref(), specifier.as_ref());
+            let [lengths @ .., consults] = counts;
             let Some(refusal) = Refusal::new(number) else {
                 return Ok(self.taken(number, lengths));
             };
             if refusal != Refusal::ListTooShort || !self.grow() {
-                return Err(refusal);
+                return Err(Refused::new(refusal, consults));
             }
         }
     }
@@ -90,8 +134,9 @@ impl Buffers {
         true
     }
 
-    fn call(&mut self, listing: &[u8], settings: &[u8], start: &[u8], specifier: &[u8]) -> (u32, [u32; 3]) {
-        let mut lengths = [0; 3];
+    /// The number, and the counts: the lengths of three texts, and how many consults were made.
+    fn call(&mut self, options: Options, listing: &[u8], settings: &[u8], start: &[u8], specifier: &[u8]) -> (u32, [u32; 4]) {
+        let mut counts = [0; 4];
         // SAFETY: each pointer goes with the length of its own slice; the slices written to are this buffer's own, and so overlap no other.
         let number = unsafe {
             hannuvozh_lookup(
@@ -103,6 +148,7 @@ impl Buffers {
                 start.len(),
                 specifier.as_ptr(),
                 specifier.len(),
+                options.consults(),
                 self.result.as_mut_ptr(),
                 self.result.len(),
                 self.numbers.as_mut_ptr(),
@@ -111,10 +157,10 @@ impl Buffers {
                 self.text.len(),
                 self.work.as_mut_ptr(),
                 self.work.len(),
-                &raw mut lengths,
+                &raw mut counts,
             )
         };
-        (number, lengths)
+        (number, counts)
     }
 
     /// The answer and list as the call left them.
@@ -158,7 +204,7 @@ impl Lookup {
     /// let looked = lookup(&listing, &Settings::example().to_bytes(), "/", "a")?;
     /// let last = looked.consults().last().unwrap();
     /// assert_eq!((last.state, last.path.as_ref()), (State::File, "/node_modules/a/index.js"));
-    /// # Ok::<(), hannuvozh::Refusal>(())
+    /// # Ok::<(), hannuvozh::Refused>(())
     /// ```
     #[must_use]
     pub fn consults(&self) -> Consults<'_> {
@@ -173,7 +219,7 @@ impl Lookup {
     /// let listing = Listing::new().to_bytes();
     /// let looked = lookup(&listing, &Settings::example().to_bytes(), "/", "a")?;
     /// assert_eq!(looked.printed(), "1 a\n0 /package.json\n1 /\n0 /node_modules\n");
-    /// # Ok::<(), hannuvozh::Refusal>(())
+    /// # Ok::<(), hannuvozh::Refused>(())
     /// ```
     #[must_use]
     pub fn printed(&self) -> String {

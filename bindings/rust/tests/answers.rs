@@ -1,15 +1,25 @@
 //! A question for each answer and each refusal that a caller of this crate can meet.
 
-use hannuvozh::{Answer, Buffers, Listing, Lookup, Refusal, Settings, State, lookup};
+use hannuvozh::{Answer, Buffers, Listing, Lookup, Options, Refusal, Refused, Settings, State, lookup, lookup_with};
 
 /// Package m in `/p/node_modules` with this manifest and these files.
-fn ask(manifest: &str, files: &[&str], specifier: &str) -> Result<Lookup, Refusal> {
+fn ask(manifest: &str, files: &[&str], specifier: &str) -> Result<Lookup, Refused> {
+    ask_within(Options::new(), manifest, files, specifier)
+}
+
+fn ask_within(options: Options, manifest: &str, files: &[&str], specifier: &str) -> Result<Lookup, Refused> {
     let mut listing = Listing::new();
     listing.manifest("/p/node_modules/m", manifest);
     for file in files {
         listing.file(format!("/p/node_modules/m/{file}"));
     }
-    lookup(&listing.to_bytes(), &Settings::example().to_bytes(), "/p", specifier)
+    lookup_with(options, &listing.to_bytes(), &Settings::example().to_bytes(), "/p", specifier)
+}
+
+/// Why a question is refused, and how many consults were made by then.
+fn refused(outcome: Result<Lookup, Refused>) -> (Refusal, u32) {
+    let refused = outcome.unwrap_err();
+    (refused.refusal(), refused.consults())
 }
 
 fn answer(manifest: &str, files: &[&str], specifier: &str) -> Answer {
@@ -56,16 +66,34 @@ fn numbers_and_printed_forms_agree() {
 #[test]
 fn refusals() {
     let (listing, settings) = (Listing::new().directory("/p").to_bytes(), Settings::example().to_bytes());
-    assert_eq!(lookup(&listing, &settings, "/p", "../a"), Err(Refusal::Specifier));
-    assert_eq!(lookup(&listing, &settings, "/q", "a"), Err(Refusal::Start));
-    assert_eq!(lookup(&listing, b"", "/p", "a"), Err(Refusal::Settings));
-    assert_eq!(lookup(b"", &settings, "/p", "a"), Err(Refusal::ListingSizes));
-    assert_eq!(lookup(&Listing::new().file("/.").to_bytes(), &settings, "/", "a"), Err(Refusal::ListingPaths));
-    assert_eq!(lookup(&Listing::new().directory("/package.json").to_bytes(), &settings, "/", "a"), Err(Refusal::ManifestDirectory));
-    assert_eq!(ask(&" ".repeat(16_385), &[], "m"), Err(Refusal::ManifestLimit));
-    assert_eq!(ask(r#"{"a":1,"a":2}"#, &[], "m"), Err(Refusal::MemberTwice));
+    assert_eq!(refused(lookup(&listing, &settings, "/p", "../a")), (Refusal::Specifier, 0));
+    assert_eq!(refused(lookup(&listing, &settings, "/q", "a")), (Refusal::Start, 0));
+    assert_eq!(refused(lookup(&listing, b"", "/p", "a")), (Refusal::Settings, 0));
+    assert_eq!(refused(lookup(b"", &settings, "/p", "a")), (Refusal::ListingSizes, 0));
+    assert_eq!(refused(lookup(&Listing::new().file("/.").to_bytes(), &settings, "/", "a")), (Refusal::ListingPaths, 0));
+    let manifest = Listing::new().directory("/package.json").to_bytes();
+    assert_eq!(refused(lookup(&manifest, &settings, "/", "a")), (Refusal::ManifestDirectory, 0));
+    assert_eq!(refused(ask(&" ".repeat(16_385), &[], "m")), (Refusal::ManifestLimit, 6));
+    assert_eq!(refused(ask(r#"{"a":1,"a":2}"#, &[], "m")), (Refusal::MemberTwice, 6));
     let long = format!("m/{}", "x".repeat(500));
-    assert_eq!(ask(r#"{"exports":{"./*":"./*****"}}"#, &[], &long), Err(Refusal::PathTooLong));
+    assert_eq!(refused(ask(r#"{"exports":{"./*":"./*****"}}"#, &[], &long)), (Refusal::PathTooLong, 6));
+}
+
+/// Every limit below what a lookup needs stops it; every other leaves answer and list as they are.
+#[test]
+fn limits() {
+    let manifest = r#"{"exports":{"./*":"./lib/*.js"}}"#;
+    let whole = ask(manifest, &["lib/steel.js"], "m/steel").unwrap();
+    assert_eq!(whole.consults().len(), 7);
+    for limit in (0..20).chain([Options::PREVIEW, Options::GATEWAY, u32::MAX]) {
+        let outcome = ask_within(Options::new().limit(limit), manifest, &["lib/steel.js"], "m/steel");
+        if limit < 7 {
+            assert_eq!(refused(outcome), (Refusal::TooManyConsults, limit));
+        } else {
+            assert_eq!(outcome.unwrap(), whole);
+        }
+    }
+    assert_eq!((Refusal::TooManyConsults.number(), Refusal::TooManyConsults.cause()), (53, "the caller"));
 }
 
 #[test]
@@ -75,9 +103,9 @@ fn settings_over_their_limits_are_refused_however_far() {
     for _ in 0..300 {
         many = many.condition("a");
     }
-    assert_eq!(lookup(&listing, &many.to_bytes(), "/", "a"), Err(Refusal::Settings));
+    assert_eq!(refused(lookup(&listing, &many.to_bytes(), "/", "a")), (Refusal::Settings, 0));
     let long = Settings::new().main_file(&"a".repeat(300));
-    assert_eq!(lookup(&listing, &long.to_bytes(), "/", "a"), Err(Refusal::Settings));
+    assert_eq!(refused(lookup(&listing, &long.to_bytes(), "/", "a")), (Refusal::Settings, 0));
 }
 
 /// A list that is longer than the first buffers.

@@ -50,7 +50,31 @@ fn resolve_on_disk() {
     assert!(text(&missing).contains("not found: no file for mat/iron"));
     let refused = run(&folder, &["resolve", "job", "/nowhere", "mat"]);
     assert_eq!(refused.status.code(), Some(2));
-    assert!(text(&refused).contains("refused: the start is no directory of the listing; the caller can mend it\n23\n"));
+    let words = "refused: the start is no directory of the listing; the caller can mend it\n0 paths were consulted\n23\n";
+    assert!(text(&refused).contains(words), "{}", text(&refused));
     assert_eq!(run(&folder, &["resolve", "job"]).status.code(), Some(3));
+    fs::remove_dir_all(folder).unwrap();
+}
+
+#[test]
+fn limits() {
+    let folder = folder("limits");
+    let question = ["resolve", "job", "/p", "mat/steel", "--exports-field", "exports"];
+    let within = |options: &[&str]| run(&folder, &[options, &question[..]].concat());
+    for options in [&["--plain", "--preview"][..], &["--limit", "7", "--plain"], &["--plain", "--limit", "18777"]] {
+        let found = within(options);
+        assert_eq!((found.status.code(), text(&found).as_str()), (Some(0), PRINTED));
+    }
+    let stopped = within(&["--limit", "6"]);
+    assert_eq!(stopped.status.code(), Some(2));
+    let words = "mat/steel, asked for from /p:\nrefused: the lookup needs more consults than its limit allows; the caller can mend it\n\
+                 6 paths were consulted\n53\n";
+    assert_eq!(text(&stopped), words);
+    assert_eq!(text(&within(&["--plain", "--limit", "0"])), "53\n");
+    for wrong in [&["--limit", "-1"][..], &["--limit", "many"], &["--limit", "4294967296"]] {
+        let refused = within(wrong);
+        assert_eq!(refused.status.code(), Some(3));
+        assert!(String::from_utf8_lossy(&refused.stderr).starts_with("--limit wants a number up to 4294967295"));
+    }
     fs::remove_dir_all(folder).unwrap();
 }

@@ -1,6 +1,6 @@
 //! A folder on disk, listed whole and listed for one question: both must give the same answer and list.
 
-use hannuvozh::{Listing, Refusal, Settings, lookup, resolve};
+use hannuvozh::{Listing, Options, Refusal, Settings, lookup, lookup_with, resolve, resolve_with};
 use std::fs;
 use std::path::{Path, PathBuf};
 
@@ -35,6 +35,11 @@ fn same(folder: &Path, whole: &[u8], start: &str, specifier: &str) -> Option<u32
     let packed = resolve(folder, &settings, start, specifier).unwrap();
     assert_eq!(packed.outcome, lookup(whole, &settings.to_bytes(), start, specifier), "{specifier} from {start}");
     assert!(packed.listing.to_bytes().len() <= whole.len());
+    for limit in [0, 5, 8] {
+        let options = Options::new().limit(limit);
+        let packed = resolve_with(options, folder, &settings, start, specifier).unwrap();
+        assert_eq!(packed.outcome, lookup_with(options, whole, &settings.to_bytes(), start, specifier), "{limit} for {specifier}");
+    }
     packed.outcome.ok().map(|looked| looked.answer().number())
 }
 
@@ -76,5 +81,5 @@ fn a_folder_that_is_not_there() {
     assert!(resolve("/no/such/folder", &Settings::require(), "/", "a").is_err());
     assert!(Listing::from_folder("/no/such/folder", "/").is_err());
     let refused = lookup(&Listing::new().to_bytes(), &Settings::require().to_bytes(), "/none", "a");
-    assert_eq!(refused, Err(Refusal::Start));
+    assert_eq!(refused.map_err(|refused| refused.refusal()), Err(Refusal::Start));
 }

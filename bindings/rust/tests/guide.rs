@@ -35,25 +35,45 @@ fn list_numbers() {
     assert_eq!(dump("numbers"), bytes);
 }
 
+/// The rows of the table under a heading, cell by cell, without the table's head.
+fn rows(heading: &str) -> Vec<Vec<&'static str>> {
+    let section = GUIDE.split(&format!("\n## {heading}\n")).nth(1).unwrap().split("\n## ").next().unwrap();
+    let rows = section.lines().filter(|line| line.starts_with('|'));
+    let cells = |row: &'static str| row.trim_matches('|').split('|').map(|cell| cell.trim().trim_matches('`')).collect();
+    rows.skip(2).map(cells).collect()
+}
+
+/// What is printed for package m in `/p/node_modules` with this manifest and these files, asked for from /p.
+fn asked(manifest: &str, files: &str, specifier: &str) -> String {
+    let mut listing = Listing::new();
+    listing.manifest("/p/node_modules/m", manifest);
+    for file in files.split(", ").filter(|file| !file.is_empty()) {
+        listing.file(format!("/p/node_modules/m/{file}"));
+    }
+    let looked = lookup(&listing.to_bytes(), &Settings::example().to_bytes(), "/p", specifier).unwrap();
+    looked.answer().printed().replace(" /p/node_modules/m/", " m/")
+}
+
 #[test]
 fn an_example_of_each_answer() {
-    let section = GUIDE.split("## Answers").nth(1).unwrap().split("\n## ").next().unwrap();
     let mut seen = Vec::new();
-    for row in section.lines().filter(|line| line.starts_with('|')) {
-        let cells: Vec<&str> = row.trim_matches('|').split('|').map(|cell| cell.trim().trim_matches('`')).collect();
-        let &[_, manifest, files, specifier, printed] = &cells[..] else { panic!("a row of five cells: {row}") };
-        if !manifest.starts_with('{') {
-            continue;
-        }
-        let mut listing = Listing::new();
-        listing.manifest("/p/node_modules/m", manifest);
-        for file in files.split(", ").filter(|file| !file.is_empty()) {
-            listing.file(format!("/p/node_modules/m/{file}"));
-        }
-        let looked = lookup(&listing.to_bytes(), &Settings::example().to_bytes(), "/p", specifier).unwrap();
-        assert_eq!(looked.answer().printed(), printed.replace(" m/", " /p/node_modules/m/"), "{row}");
-        seen.push(looked.answer().number());
+    for row in rows("Answers") {
+        let &[_, manifest, files, specifier, printed] = &row[..] else { panic!("a row of five cells: {row:?}") };
+        assert_eq!(asked(manifest, files, specifier), printed, "{row:?}");
+        seen.push(printed.as_bytes()[0]);
     }
     seen.dedup();
-    assert_eq!(seen, [0, 1, 2, 3, 4, 5, 6, 7]);
+    assert_eq!(seen, b"01234567");
+}
+
+#[test]
+fn which_export_applies() {
+    let rows = rows("Which export applies");
+    for row in &rows {
+        let &[_, exports, files, specifier, key, printed] = &row[..] else { panic!("a row of six cells: {row:?}") };
+        assert_eq!(asked(&format!("{{\"exports\":{exports}}}"), files, specifier), printed, "{row:?}");
+        assert!(key == "none" || exports.contains(&format!("\"{key}\"")), "{row:?}");
+    }
+    let steps: Vec<&str> = rows.iter().map(|row| &row[0][..1]).collect();
+    assert_eq!(steps, ["1", "2", "2", "3", "4", "5", "5"]);
 }

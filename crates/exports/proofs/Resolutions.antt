@@ -11,7 +11,7 @@ use Rattle.definition.specs.Path.{manifestOf}
 use Rattle.definition.specs.Json.{Json, scalar, str, arr, obj, Members}
 use Rattle.definition.specs.Settings.{textsOf}
 use Rattle.definition.specs.Exports as exports
-use Rattle.definition.specs.Exports.{Request, failed, InvalidPackageConfig, orGoOn, pathNotExported, Entry, entries, get, anyKey, isDotKey, isSubpathKey, patternMatch, best, literal, literalOr, bestResolve, PACKAGE-TARGET-RESOLVE, PACKAGE-IMPORTS-EXPORTS-RESOLVE, isMixed, dotOr, mainExport, mainResolve, keyResolve, PACKAGE-EXPORTS-RESOLVE}
+use Rattle.definition.specs.Exports.{Request, failed, InvalidPackageConfig, orGoOn, pathNotExported, Entry, entries, get, anyKey, isDotKey, isSubpathKey, patternMatch, best, literal, asSelected, literalOr, select, selectedResolve, PACKAGE-TARGET-RESOLVE, PACKAGE-IMPORTS-EXPORTS-RESOLVE, isMixed, dotOr, mainExport, mainResolve, keyResolve, PACKAGE-EXPORTS-RESOLVE}
 use Rattle.definition.specs.JsonAt.{getAt}
 use Rattle.laws.specs.JsonAtLaws as at
 use Rattle.package_target.specs.Places.{Stands, kindOf}
@@ -75,16 +75,16 @@ module _ (m mk : List ℕ) (es : List Entry) where
 -- `PACKAGE_IMPORTS_EXPORTS_RESOLVE`
 module _ (url : List ℕ) (conds : List (List ℕ)) (mk : List ℕ) (es : List Entry) (c : exports.Context) where
   pub imports-slash : endsWith (text "/") mk ≡ true → nothingYet c ≡ PACKAGE-IMPORTS-EXPORTS-RESOLVE url conds mk es c
-  unfolding PACKAGE-IMPORTS-EXPORTS-RESOLVE
+  unfolding PACKAGE-IMPORTS-EXPORTS-RESOLVE select selectedResolve
   imports-slash h = rw h
 
   module _ (h : endsWith (text "/") mk ≡ false) where
     pub imports-literal : (j : Json) → literal mk es ≡ some j → PACKAGE-TARGET-RESOLVE (record { packageURL = url; key = mk; matched = none; conditions = conds }) j c ≡ PACKAGE-IMPORTS-EXPORTS-RESOLVE url conds mk es c
-    unfolding PACKAGE-IMPORTS-EXPORTS-RESOLVE literalOr
+    unfolding PACKAGE-IMPORTS-EXPORTS-RESOLVE select literalOr selectedResolve
     imports-literal j e = rw (h, e)
 
-    pub imports-pattern : literal mk es ≡ none → bestResolve url conds mk (best mk none es) c ≡ PACKAGE-IMPORTS-EXPORTS-RESOLVE url conds mk es c
-    unfolding PACKAGE-IMPORTS-EXPORTS-RESOLVE literalOr
+    pub imports-pattern : literal mk es ≡ none → selectedResolve url conds (asSelected mk (best mk none es)) c ≡ PACKAGE-IMPORTS-EXPORTS-RESOLVE url conds mk es c
+    unfolding PACKAGE-IMPORTS-EXPORTS-RESOLVE select literalOr
     imports-pattern e = rw (h, e)
 
 -- a key without a star that matches is a folder's
@@ -127,12 +127,12 @@ module _ (m mk : List ℕ) (b : Best) where
   best-some (some x) h e = (x, (refl, h))
 
 module _ (url : List ℕ) (conds : List (List ℕ)) (mk : List ℕ) (o : Option Entry) (c : exports.Context) where
-  pub pattern-none : o ≡ none → nothingYet c ≡ bestResolve url conds mk o c
-  unfolding bestResolve
+  pub pattern-none : o ≡ none → nothingYet c ≡ selectedResolve url conds (asSelected mk o) c
+  unfolding asSelected selectedResolve
   pattern-none e = rw e
 
-  pub pattern-some : (x : Entry) → o ≡ some x → PACKAGE-TARGET-RESOLVE (patternRequest url mk x conds) (x .target) c ≡ bestResolve url conds mk o c
-  unfolding bestResolve
+  pub pattern-some : (x : Entry) → o ≡ some x → PACKAGE-TARGET-RESOLVE (patternRequest url mk x conds) (x .target) c ≡ selectedResolve url conds (asSelected mk o) c
+  unfolding asSelected selectedResolve
   pattern-some x e = rw e
 
 -- the main export

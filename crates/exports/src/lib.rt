@@ -18,7 +18,7 @@ ghost use Rattle.definition.specs.Settings.{textsOf, settingsOf};
 ghost use mathlib.Core.Option.{Option, none};
 ghost use Rattle.definition.specs.Json.{Json, obj, Members, got, quoted};
 ghost use Rattle.laws.specs.JsonAtLaws as values;
-ghost use Rattle.definition.specs.Exports.{isSubpathKey, isDotKey, anyKey, Entry, entries, better as betterOf, best as bestOf, literal, bestResolve, mainExport, mainResolve, PACKAGE-IMPORTS-EXPORTS-RESOLVE, PACKAGE-EXPORTS-RESOLVE};
+ghost use Rattle.definition.specs.Exports.{isSubpathKey, isDotKey, anyKey, Entry, entries, better as betterOf, best as bestOf, literal, asSelected, selectedResolve, mainExport, mainResolve, PACKAGE-IMPORTS-EXPORTS-RESOLVE, PACKAGE-EXPORTS-RESOLVE};
 ghost use Rattle.targets.specs.Contexts.{contextOf};
 ghost use Rattle.targets.specs.Answers.{answerOf};
 ghost use Rattle.package_target.specs.Places.{Stands};
@@ -233,7 +233,7 @@ fn pattern_resolve(
     path: &mut [u8; 2048],
 ) -> Resolved
     requires { ⌜ 1024 ≤ length (now work) ⌝ }
-    ensures { λ r. ⌜ ((ms : Members) → Stands (now (m .entry)) 15 at (obj ms) → resolvedOf (now (m .entry)) (now (url .entry)) (now («match_key» .entry)) (now (path .exit)) r ≡ bestResolve (now (url .entry)) (textsOf (now (settings .entry)) 0) (now («match_key» .entry)) (bestOf (now («match_key» .entry)) none (entries ms)) (contextOf (now (m .entry)) c)) ⌝ }
+    ensures { λ r. ⌜ ((ms : Members) → Stands (now (m .entry)) 15 at (obj ms) → resolvedOf (now (m .entry)) (now (url .entry)) (now («match_key» .entry)) (now (path .exit)) r ≡ selectedResolve (now (url .entry)) (textsOf (now (settings .entry)) 0) (asSelected (now («match_key» .entry)) (bestOf (now («match_key» .entry)) none (entries ms))) (contextOf (now (m .entry)) c)) ⌝ }
 {
     let best = best_key(m, at, match_key, work);
     let found = best.found;

@@ -1,10 +1,10 @@
--- THE CHOSEN KEY of an exports map, with "matches" written without the search: it matches, it is preferred to every other key that
--- matches, none is chosen only where none matches, and it is the same in every order of the map.
+-- THE BEST KEY of an exports map, with "matches" written without the search: it matches, it is preferred to every other key that matches, and there
+-- is none only where none matches. What that means for the key that applies, and that it is the same in every order: AppliedKey.
 use mathlib.Core.Path.{_≡_, refl, sym, _∙_, ap, subst}
 use Prim.Native.Nat.{ℕ, suc, _+_, _-_, _≤_, _<_, Ordering, Ordering·lt, Ordering·eq, Ordering·gt}
 use native.Mathlib.Omega.{arith}
 use mathlib.Core.Bool.{Bool, true, false, not, _&&_, _||_, true≢false, false≢true}
-use mathlib.Core.List.{List, [], _∷_, _++_, append-assoc, List·Memᴰ, List·Memᴰ·head, List·Memᴰ·tail, List·Memᴰ·not-nil, List·Permᴰ}
+use mathlib.Core.List.{List, [], _∷_, _++_, append-assoc, List·Memᴰ, List·Memᴰ·head, List·Memᴰ·tail, List·Memᴰ·not-nil}
 use mathlib.Core.Option.{Option, none, some}
 use mathlib.Core.Logic.{_⊎_, inl, inr}
 use lib.ListN.{length, drop, take, length-append, take-append-drop, length-take, length-drop}
@@ -16,14 +16,20 @@ use Rattle.laws.specs.TextLaws.{and-true, equal-true, equal-refl, starts
 use Rattle.definition.specs.Exports.{Entry, isGt, PATTERN-KEY-COMPARE, starMatch, isSubpathKey, patternMatch, isMatch, matches, better, best}
 use Rattle.laws.specs.KeyOrderLaws.{Kind, pattern, folder, kind-of, some-if, none-if, either-if, or-true, rank, rank-inj, compare-rank}
 use Rattle.laws.specs.FoldLaws.{greater}
-use Rattle.laws.specs.ChosenKeyLaws.{Functional, score, byScore, Best, keeps, better-is, best-perm}
+use Rattle.laws.specs.ChosenKeyLaws.{Functional, score, byScore, Best, keeps, better-is}
 
--- A KEY MATCHES a match key. A pattern key is a base, "*" and a trailer without another "*", and the match key is the base, a part and
--- the trailer; the part is empty only where the trailer is. A folder key ends with "/" and has no "*", and the match key begins with it
-pub data Matches (mk : Text) : Text → Type 0 where
+-- A KEY MATCHES A SUBPATH. Both begin with "./" (or "#"). There are two kinds of such keys.
+--
+-- A star key has one "*": what stands before it is its base, what stands behind it its trailer. It matches the subpaths that are the base, some
+-- part, and the trailer: "./lib/*.js" matches "./lib/steel.js", whose part is "steel". The part may hold "/". It may be empty only where the
+-- trailer is: "./a*" matches "./a", and "./a*.js" does not match "./a.js".
+--
+-- A folder key ends in "/" and has no "*". It matches the subpaths that begin with it: "./lib/" matches "./lib/steel.js".
+pub data Matches (subpath : Text) : Text → Type 0 where
   byStar : (base part trailer : Text) → isSubpathKey (base ++ star ∷ trailer) ≡ true → contains star base ≡ false → contains star trailer ≡ false
-      → (trailer ≡ []) ⊎ (1 ≤ length part) → mk ≡ base ++ (part ++ trailer) → Matches mk (base ++ star ∷ trailer)
-  byFolder : (key part : Text) → isSubpathKey key ≡ true → contains star key ≡ false → endsWith (text "/") key ≡ true → mk ≡ key ++ part → Matches mk key
+      → (trailer ≡ []) ⊎ (1 ≤ length part) → subpath ≡ base ++ (part ++ trailer) → Matches subpath (base ++ star ∷ trailer)
+  byFolder : (key part : Text) → isSubpathKey key ≡ true → contains star key ≡ false → endsWith (text "/") key ≡ true → subpath ≡ key ++ part
+      → Matches subpath key
 
 -- Texts ---------------------------------------------------------------------------------------------------------------------------
 
@@ -240,7 +246,3 @@ module _ (mk : Text) (es : List Entry) (functional : Functional es) where
       go : (r : Option Entry) → best mk none es ≡ r → r ≡ none
       go none q = refl
       go (some e) q = let c = chosen e q in absurd (h e (c .member) (c .matching))
-
-  -- the same entry is chosen in every order of the map
-  pub same-in-every-order : {fs : List Entry} → List·Permᴰ es fs → best mk none es ≡ best mk none fs
-  same-in-every-order d = best-perm mk es functional d

@@ -10,7 +10,7 @@ use Rattle.definition.specs.Text.{text, if_then_else_, star, equal, contains, i
 use Rattle.definition.specs.Path.{manifestOf}
 use Rattle.definition.specs.Specifier.{parseSpecifier}
 use Rattle.definition.specs.Json.{Json, scalar, str, arr, obj, Elements, noElement, element, Members, noMember, member}
-use Rattle.definition.specs.Exports.{Failure, InvalidPackageConfig, PackagePathNotExported, Context, Outcome, found, nothing, failed, overlong, Resolved, orGoOn, orNext, Entry, entries, get, isGt, PATTERN-KEY-COMPARE, matches, bestKey, better, best, literal, Request, stringTarget, orDot, pathNotExported, isEmpty, PACKAGE-TARGET-RESOLVE, eachCondition, eachElement, bestResolve, literalOr, PACKAGE-IMPORTS-EXPORTS-RESOLVE, isMixed, dotOr, mainExport, mainResolve, keyResolve, PACKAGE-EXPORTS-RESOLVE, isSubpathKey, anyKey, patternMatch}
+use Rattle.definition.specs.Exports.{Failure, InvalidPackageConfig, PackagePathNotExported, Context, Outcome, found, nothing, failed, overlong, Resolved, orGoOn, orNext, Entry, entries, get, isGt, PATTERN-KEY-COMPARE, matches, bestKey, better, best, literal, Request, stringTarget, orDot, pathNotExported, isEmpty, PACKAGE-TARGET-RESOLVE, eachCondition, eachElement, Selected, asSelected, literalOr, select, selectedResolve, PACKAGE-IMPORTS-EXPORTS-RESOLVE, isMixed, dotOr, mainExport, mainResolve, keyResolve, PACKAGE-EXPORTS-RESOLVE, isSubpathKey, anyKey, patternMatch}
 
 -- S holds of every string and of every member's name in a value
 unfoldable mutual
@@ -115,23 +115,35 @@ module _ {S : List ℕ → Type 0} {C : Context → Type 0} {R : Request → Typ
     (literally : R (record { packageURL = url; key = sub; matched = none; conditions = conds }))
     (byPattern : (k : List ℕ) → S k → R (record { packageURL = url; key = k; matched = patternMatch sub k; conditions = conds }))
     (mixed : O (failed (InvalidPackageConfig (manifestOf url)))) (notExported : O (failed (PackagePathNotExported sub url))) where
-  literalOr-kept : (o : Option Json) (ms : Members) (c : Context) → OptionHas (Strings S) o → StringsOf S ms → C c → Kept C O (literalOr url conds sub o (entries ms) c)
-  unfolding literalOr
-  literalOr-kept (some j) ms c o s h = target-kept keeps _ j c literally o h
-  literalOr-kept none ms c o s h = by (best sub none (entries ms)) (best-has S sub none ms tt s)
+  -- what a selected member makes of the request, and its target
+  record InSelected (m : Selected) : Type 0 where
+    request : R (record { packageURL = url; key = m .key; matched = m .matched; conditions = conds })
+    target : Strings S (m .target)
+
+  select-has : (ms : Members) → StringsOf S ms → OptionHas InSelected (select sub (entries ms))
+  unfolding select literal
+  select-has ms s =
+      option-if Selected InSelected (endsWith (text "/") sub) none _ tt
+      (by (literal sub (entries ms)) (best sub none (entries ms))
+      (unfold literal in (option-if Json (Strings S) (contains star sub) none (get sub (entries ms)) tt (get-has S sub ms s)))
+      (best-has S sub none ms tt s))
     where
-      by : (b : Option Entry) → OptionHas (InEntry S) b → Kept C O (bestResolve url conds sub b c)
-      by none b = unfold bestResolve in (record { context = h; outcome = keeps .nowhere })
-      by (some e) b = unfold bestResolve in (target-kept keeps _ (e .target) c (byPattern (e .key) (b .key)) (b .target) h)
+      by : (o : Option Json) (b : Option Entry) → OptionHas (Strings S) o → OptionHas (InEntry S) b → OptionHas InSelected (literalOr sub o (asSelected sub b))
+      by (some j) b h k = unfold literalOr in (record { request = literally; target = h })
+      by none none h k = unfold literalOr asSelected in tt
+      by none (some e) h k = unfold literalOr asSelected in (record { request = byPattern (e .key) (k .key); target = k .target })
+
+  selected-kept : (o : Option Selected) (c : Context) → OptionHas InSelected o → C c → Kept C O (selectedResolve url conds o c)
+  unfolding selectedResolve
+  selected-kept none c o h = record { context = h; outcome = keeps .nowhere }
+  selected-kept (some m) c o h = target-kept keeps _ (m .target) c (o .request) (o .target) h
 
   key-kept : (j : Json) (c : Context) → Strings S j → C c → Kept C O (keyResolve url conds sub j c)
-  unfolding keyResolve PACKAGE-IMPORTS-EXPORTS-RESOLVE literal Strings
+  unfolding keyResolve PACKAGE-IMPORTS-EXPORTS-RESOLVE Strings
   key-kept scalar c s h = record { context = h; outcome = keeps .nowhere }
   key-kept (str t) c s h = record { context = h; outcome = keeps .nowhere }
   key-kept (arr js) c s h = record { context = h; outcome = keeps .nowhere }
-  key-kept (obj ms) c s h =
-      if-kept (endsWith (text "/") sub) (record { context = h; outcome = keeps .nowhere })
-      (literalOr-kept (if contains star sub then none else get sub (entries ms)) ms c (option-if Json (Strings S) (contains star sub) none (get sub (entries ms)) tt (get-has S sub ms s)) s h)
+  key-kept (obj ms) c s h = selected-kept (select sub (entries ms)) c (select-has ms s) h
 
   main-has : (j : Json) → Strings S j → OptionHas (Strings S) (mainExport j)
   unfolding mainExport Strings

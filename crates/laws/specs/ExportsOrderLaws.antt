@@ -8,7 +8,7 @@ use mathlib.Core.Logic.{_⊎_, inl, inr}
 use Rattle.definition.specs.Text.{text, if_then_else_, equal}
 use Rattle.laws.specs.TextLaws.{equal-true, equal-refl}
 use Rattle.definition.specs.Json.{Json, obj, Members, noMember, member}
-use Rattle.definition.specs.Exports.{Context, Entry, entries, get, anyKey, isSubpathKey, isDotKey, literal, literalOr, PACKAGE-IMPORTS-EXPORTS-RESOLVE, isMixed, dotOr, mainExport, keyResolve, PACKAGE-EXPORTS-RESOLVE}
+use Rattle.definition.specs.Exports.{Context, Entry, entries, get, anyKey, isSubpathKey, isDotKey, literal, select, PACKAGE-IMPORTS-EXPORTS-RESOLVE, isMixed, dotOr, mainExport, keyResolve, PACKAGE-EXPORTS-RESOLVE}
 use Rattle.definition.specs.Reordered.{SubpathMap}
 use Rattle.laws.specs.FoldLaws.{mem-perm}
 use Rattle.laws.specs.ChosenKeyLaws.{Functional, best-perm}
@@ -87,17 +87,17 @@ main-perm (member k j ms) (member k₁ j₁ ns) f s d = go (get (text ".") (entr
     go (some o) e = rw (← same, e)
     go none e = rw (← same, e) (rw (left e, right e))
 
+-- which member applies, in every order of the map
+pub select-perm : (mk : List ℕ) (es : List Entry) → Functional es → {fs : List Entry} → List·Permᴰ es fs → select mk es ≡ select mk fs
+unfolding select literal
+select-perm mk es functional d = rw (get-perm mk es functional d (λ e m. m), best-perm mk es functional d)
+
 -- the exports map, reordered
 module _ (url : List ℕ) (conds : List (List ℕ)) (subpath : List ℕ) (ms ns : Members) (functional : Functional (entries ms)) (subpaths : SubpathMap (entries ms))
     (perm : List·Permᴰ (entries ms) (entries ns)) where
-  literalOr-perm : (o : Option Json) (c : Context) → literalOr url conds subpath o (entries ms) c ≡ literalOr url conds subpath o (entries ns) c
-  unfolding literalOr
-  literalOr-perm (some j) c = refl
-  literalOr-perm none c = rw (best-perm subpath (entries ms) functional perm)
-
   key-perm : (c : Context) → keyResolve url conds subpath (obj ms) c ≡ keyResolve url conds subpath (obj ns) c
-  unfolding keyResolve PACKAGE-IMPORTS-EXPORTS-RESOLVE literal
-  key-perm c = rw (get-perm subpath (entries ms) functional perm (λ e m. m), literalOr-perm)
+  unfolding keyResolve PACKAGE-IMPORTS-EXPORTS-RESOLVE
+  key-perm c = rw (select-perm subpath (entries ms) functional perm)
 
   pub PACKAGE-EXPORTS-RESOLVE-perm : (c : Context) → PACKAGE-EXPORTS-RESOLVE url conds subpath (obj ms) c ≡ PACKAGE-EXPORTS-RESOLVE url conds subpath (obj ns) c
   unfolding PACKAGE-EXPORTS-RESOLVE isMixed

@@ -1,6 +1,6 @@
 //! The lookup on the command line: packs a folder, writes settings, asks, and says the answer in words and in the program's form.
 
-use hannuvozh::{Listing, Lookup, Refusal, Settings, lookup, resolve};
+use hannuvozh::{Listing, Lookup, Options, Refused, Settings, lookup_with, resolve_with};
 use std::path::Path;
 use std::process::ExitCode;
 use std::{env, fs, io};
@@ -14,7 +14,10 @@ hannuvozh resolve FOLDER START SPECIFIER [OPTION TEXT]..
                                                  asks about a folder on disk, of any size; START is a path in it that begins with /
 
 OPTION is --condition, --extension, --main-field, --main-file or --exports-field, each as often as wanted. Without any: the conditions
-node and require, the extensions .js, .json and .node, main, index, exports. --plain, first, leaves the words out.
+node and require, the extensions .js, .json and .node, main, index, exports.
+
+First may stand: --plain, which leaves the words out; --limit N, which refuses a lookup that needs more than N consults (18777 if not
+given, which no bare name passes); --preview, a limit of 512.
 
 The exit status is 0 where a file is found, 1 for any other answer, 2 for a refusal, 3 where the command can't be carried out.
 ";
@@ -56,7 +59,36 @@ fn explain(looked: &Lookup) {
     }
 }
 
-fn print(plain: bool, start: &str, specifier: &str, outcome: &Result<Lookup, Refusal>) -> u8 {
+/// What stands before the subcommand.
+struct Ways {
+    plain: bool,
+    options: Options,
+}
+
+/// Takes the options that stand first, and gives the rest.
+fn ways<'a, 'b>(mut args: &'a [&'b str]) -> Result<(Ways, &'a [&'b str]), String> {
+    let mut ways = Ways { plain: false, options: Options::new() };
+    loop {
+        args = match args {
+            ["--plain", rest @ ..] => {
+                ways.plain = true;
+                rest
+            }
+            ["--preview", rest @ ..] => {
+                ways.options = Options::preview();
+                rest
+            }
+            ["--limit", number, rest @ ..] => {
+                let limit = number.parse().map_err(|_| format!("--limit wants a number up to {}, not {number}", u32::MAX))?;
+                ways.options = Options::new().limit(limit);
+                rest
+            }
+            _ => return Ok((ways, args)),
+        };
+    }
+}
+
+fn print(plain: bool, start: &str, specifier: &str, outcome: &Result<Lookup, Refused>) -> u8 {
     if !plain {
         println!("{specifier}, asked for from {start}:");
     }
@@ -70,11 +102,12 @@ fn print(plain: bool, start: &str, specifier: &str, outcome: &Result<Lookup, Ref
             print!("{}", looked.printed());
             u8::from(looked.answer().number() != 0)
         }
-        Err(refusal) => {
+        Err(refused) => {
             if !plain {
-                println!("refused: {refusal}; {} can mend it", refusal.cause());
+                println!("refused: {refused}; {} can mend it", refused.refusal().cause());
+                println!("{} paths were consulted", refused.consults());
             }
-            println!("{}", refusal.number());
+            println!("{}", refused.refusal().number());
             2
         }
     }
@@ -87,26 +120,26 @@ fn question() -> Result<(Vec<u8>, Vec<u8>), String> {
     Ok((bytes[..cut].to_vec(), bytes.get(cut + 1..).unwrap_or(b"").to_vec()))
 }
 
-fn ask(plain: bool, start: &[u8], specifier: &[u8]) -> Result<u8, String> {
-    let outcome = lookup(&read("tree")?, &read("settings")?, start, specifier);
-    Ok(print(plain, &String::from_utf8_lossy(start), &String::from_utf8_lossy(specifier), &outcome))
+fn ask(ways: &Ways, start: &[u8], specifier: &[u8]) -> Result<u8, String> {
+    let outcome = lookup_with(ways.options, &read("tree")?, &read("settings")?, start, specifier);
+    Ok(print(ways.plain, &String::from_utf8_lossy(start), &String::from_utf8_lossy(specifier), &outcome))
 }
 
 fn run(args: &[&str]) -> Result<u8, String> {
     let words = |fault: io::Error| fault.to_string();
-    let (plain, args) = if args.first() == Some(&"--plain") { (true, &args[1..]) } else { (false, args) };
+    let (ways, args) = ways(args)?;
     match args {
         ["pack", folder] => write("tree", &Listing::from_folder(Path::new(folder), "/").map_err(words)?.to_bytes()).map(|()| 0),
         ["pack", folder, at] => write("tree", &Listing::from_folder(Path::new(folder), at).map_err(words)?.to_bytes()).map(|()| 0),
         ["settings", options @ ..] => write("settings", &settings(options)?.to_bytes()).map(|()| 0),
-        ["ask"] => question().and_then(|(start, specifier)| ask(plain, &start, &specifier)),
+        ["ask"] => question().and_then(|(start, specifier)| ask(&ways, &start, &specifier)),
         ["ask", start, specifier] => {
             fs::write("question", format!("{start}\n{specifier}")).map_err(words)?;
-            ask(plain, start.as_bytes(), specifier.as_bytes())
+            ask(&ways, start.as_bytes(), specifier.as_bytes())
         }
         ["resolve", folder, start, specifier, options @ ..] => {
-            let packed = resolve(Path::new(folder), &settings(options)?, start, specifier).map_err(words)?;
-            Ok(print(plain, start, specifier, &packed.outcome))
+            let packed = resolve_with(ways.options, Path::new(folder), &settings(options)?, start, specifier).map_err(words)?;
+            Ok(print(ways.plain, start, specifier, &packed.outcome))
         }
         _ => Err(HELP.into()),
     }
