@@ -19,6 +19,8 @@ use Rattle.package_json.specs.declared.Cursor.{Cursor}
 use Rattle.package_json.specs.declared.Cursor.the-variants.{At, Nothing}
 use Rattle.json_text.specs.declared.TextAt.{TextAt}
 use Rattle.package_json.specs.declared.Kind as kind
+use Rattle.package_json.specs.Values as values
+use Rattle.package_json.proofs.Values.{text-written, array-written, object-written}
 use Rattle.package_json.specs.Cursors as cursors
 use Rattle.package_json.specs.Cursors.{placed}
 use Rattle.json_text.specs.Texts.{textOf, told, orEmpty}
@@ -31,27 +33,9 @@ use Rattle.package_target.specs.Places.{Written, Stands, MembersAt, Elem
 none-of : {P : Type 0} → ⊥ → P
 none-of z = absurd z
 
--- what is written has the kind of the value that it means
-pub text-written : (w : Json) (s : List ℕ) → settled w ≡ str s → w ≡ str s
-unfolding settled
-text-written scalar s e = cc
-text-written (str t) s e = e
-text-written (arr js) s e = cc
-text-written (obj ms) s e = cc
-
-pub array-written : (w : Json) (js : Elements) → settled w ≡ arr js → (es : Elements) × ((w ≡ arr es) × (settledElements es ≡ js))
-unfolding settled
-array-written scalar js e = none-of (let z : _≡_ {A = ℕ} 0 1 = cc in omega arith)
-array-written (str t) js e = none-of (let z : _≡_ {A = ℕ} 0 1 = cc in omega arith)
-array-written (arr es) js e = (es, (refl, cc))
-array-written (obj ms) js e = none-of (let z : _≡_ {A = ℕ} 0 1 = cc in omega arith)
-
-pub object-written : (w : Json) (ms : Members) → settled w ≡ obj ms → (os : Members) × ((w ≡ obj os) × (settledMembers os ≡ ms))
-unfolding settled
-object-written scalar ms e = none-of (let z : _≡_ {A = ℕ} 0 1 = cc in omega arith)
-object-written (str t) ms e = none-of (let z : _≡_ {A = ℕ} 0 1 = cc in omega arith)
-object-written (arr es) ms e = none-of (let z : _≡_ {A = ℕ} 0 1 = cc in omega arith)
-object-written (obj os) ms e = (os, (refl, cc))
+-- a value by its place in the manifest
+pub stands-at : {m : List ℕ} {d i : ℕ} {j : Json} → values.Stands d (drop i m) j → Stands m d i j
+stands-at h = record { written = h .written; there = record { here = h .there }; means = h .means }
 
 -- an object as written, of which ms are the members by what they mean
 pub record ObjectAt (m : List ℕ) (d i : ℕ) (ms : Members) : Type 0 where
