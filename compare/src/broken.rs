@@ -412,7 +412,8 @@ fn named(length: usize, rng: &mut Rng) -> Vec<u8> {
 
 /// Document 01's printed example.
 pub fn printed() -> World {
-    let mut world = World { tree: Tree::new(), settings: example_settings(), start: b"/p".to_vec(), specifier: b"mat/steel".to_vec(), repeats: 0 };
+    let mut world =
+        World { tree: Tree::new(), settings: example_settings(), start: b"/p".to_vec(), specifier: b"mat/steel".to_vec(), repeats: 0 };
     world.tree.insert(b"/".to_vec(), None);
     world.add_directory(b"/p");
     world.add(b"/p/node_modules/mat/lib/steel.js", Some(Vec::new()));

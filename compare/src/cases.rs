@@ -137,7 +137,11 @@ pub fn repeating(seed: u64, number: u64) -> Case {
     let exporting = rng.chance(80);
     let mut world = if exporting { exporting_world(rng) } else { bare_world(rng) };
     world.repeats = 100;
-    if exporting { export(&mut world, rng) } else { grow_some(&mut world, rng) }
+    if exporting {
+        export(&mut world, rng)
+    } else {
+        grow_some(&mut world, rng)
+    }
     world.case()
 }
 

@@ -220,7 +220,11 @@ fn repeats(count: u64, seed: u64) -> bool {
         number += 1;
     }
     report.print();
-    println!("{} of them decided {} with a name that comes twice", report.repeated, if rust::AT_HAND { "by the Rust" } else { "by the walk" });
+    println!(
+        "{} of them decided {} with a name that comes twice",
+        report.repeated,
+        if rust::AT_HAND { "by the Rust" } else { "by the walk" }
+    );
     let kinds = [Point::RepeatedField, Point::RepeatedKey, Point::RepeatedCondition, Point::RepeatedDeep, Point::RepeatedEscape];
     let few = kinds.into_iter().find(|&kind| report.marks[kind as usize] < count / 20);
     few.iter().for_each(|&kind| println!("too few: {}", points::POINTS[kind as usize]));

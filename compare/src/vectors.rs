@@ -143,10 +143,11 @@ fn siblings(case: &Case, rng: &mut Rng) -> Vec<Case> {
     all
 }
 
-/// Limits at their value and one past: few of these are small, and each is kept.
+/// Limits at their value and one past: few of these are small, and each is kept; of the others some.
 fn limits(seed: u64) -> impl Iterator<Item = Case> {
-    let small = |case: &Case| case.listing.len() < 5_000;
-    (0..100).map(move |number| broken::at_a_limit(&mut Rng::new(seed ^ 0x6c69_6d69, number))).filter(small)
+    let case = move |number| broken::at_a_limit(&mut Rng::new(seed ^ 0x6c69_6d69, number));
+    let length = |number| if number < 30 { 20_000 } else { 5_000 };
+    (0..100).map(move |number| (number, case(number))).filter(move |(number, case)| case.listing.len() < length(*number)).map(|kept| kept.1)
 }
 
 fn choose(seed: u64) -> Result<Chosen, String> {
