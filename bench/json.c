@@ -77,29 +77,16 @@ static void names(const char *stem, const char *last) {
     put("}");
 }
 
-// The same with names of one mark (specs/Names.antt, `markOf`): the last bytes are a text plus a choice of seven vectors whose value under the mark is 0.
-static const int vectors[7][18] = {
-    {-2, 2, -1, 1, -4, 0, 0, 1, 0, 2, 0, -3, -2, 3, 3, 1, -1, -2},   {-4, 1, -2, 3, 3, 0, 1, -5, -1, -1, -1, -5, -4, -3, 0, 2, 2, 2},
-    {4, -2, 1, 0, -2, -1, 2, 3, 5, -1, -1, -2, 3, 3, -5, -4, -1, 2}, {2, 1, 1, 3, -5, -2, 0, -6, -1, -2, 1, 0, 0, -2, 5, 1, 1, 3},
-    {-6, -1, -2, -1, 1, 2, 2, -2, 1, 1, -3, 3, 3, -1, -6, 0, -3, -2}, {-3, -1, 0, 2, 6, 1, 2, -1, 3, 0, -6, 3, -4, 1, -1, 2, -1, -3},
-    {0, -2, 0, -1, 1, -5, 6, 1, -1, -4, -3, -1, -2, 3, 2, -3, 3, 2},
-};
-
-static void colliding(const char *first, const char *stem) {
+// 128 members of one name, as long as 16 KiB allows
+static void repeated(const char *stem) {
     size_t each = MAX / 128 - 6;
     n = 0;
     put("{");
     for (int i = 0; i < 128; i++) {
         if (i) put(",");
         put("\"");
-        put(first);
-        for (size_t k = strlen(first); k + strlen(stem) + 19 <= each; k += strlen(stem)) put(stem);
-        for (int p = 0; p < 18; p++) {
-            int c = 63;
-            for (int v = 0; v < 7; v++) if (i >> v & 1) c += vectors[v][p];
-            m[n++] = c;
-        }
-        put("z\":0");
+        for (size_t k = 0; k + strlen(stem) <= each; k += strlen(stem)) put(stem);
+        put("\":0");
     }
     put("}");
 }
@@ -143,11 +130,8 @@ int main(void) {
     WORST("names, all short escapes", names("\\n", "z"));
     WORST("names, pairs", names("\\ud83d\\ude00", "z"));
     WORST("names, UTF-8", names("\xc3\xa9", "z"));
-    WORST("one mark, plain", colliding("", "a"));
-    WORST("one mark, one escape first", colliding("\\u0061", "a"));
-    WORST("one mark, escapes", colliding("", "\\u0061"));
-    WORST("one mark, short escapes", colliding("", "\\n"));
-    WORST("one mark, UTF-8 and an escape", colliding("\\u0061", "\xc3\xa9"));
+    WORST("one name, plain", repeated("a"));
+    WORST("one name, all escapes", repeated("\\u0061"));
     WORST("deep", many("[[[[[[[[[[[[[[]]]]]]]]]]]]]]"));
     WORST("deep objects", many("{\"\":{\"\":{\"\":{\"\":{\"\":{\"\":0}}}}}}"));
     WORST("small objects", many("{\"\":0}"));

@@ -184,7 +184,9 @@ fn compare(jobs: &[Job]) -> Vec<Figures> {
 /// The longest lists that were found, by the depth of the start: time against consults times entries, and what a preview takes, which stops
 /// at its limit.
 fn lists() {
-    println!("\n| start's depth | entries | consults | product, ns | Rust fresh, ns | ns for each consult and entry | preview, ns | preview / whole |");
+    println!(
+        "\n| start's depth | entries | consults | product, ns | Rust fresh, ns | ns for each consult and entry | preview, ns | preview / whole |"
+    );
     println!("|---|---|---|---|---|---|---|---|");
     for depth in [4, 8, 16, 24, 32] {
         let job = trees::longest(depth);
@@ -194,6 +196,24 @@ fn lists() {
         let preview = time_product(&job, rooms(&job), None, PREVIEW);
         let (call, fresh) = (figures.call, figures.fresh);
         println!("| {depth} | {entries} | {consults} | {call:.0} | {fresh:.0} | {each:.3} | {preview:.0} | {:.2} |", preview / call);
+    }
+}
+
+/// Whole lookups over manifests of 16 KiB, against a plain one.
+fn manifests() {
+    println!(
+        "\n| manifest of 16 KiB | bytes | product, ns | of it manifest and walk | a byte | factor of the plain one | Rust fresh, ns |"
+    );
+    println!("|---|---|---|---|---|---|---|");
+    let mut plain = 0.0;
+    for job in [trees::plain()].iter().chain(&trees::worst()) {
+        examine(job);
+        let figures = time(job);
+        let bytes = job.tree.values().flatten().map(Vec::len).sum::<usize>() as f64;
+        let alone = (figures.call - figures.check - figures.clearing) / bytes;
+        plain = if plain == 0.0 { alone } else { plain };
+        let Figures { call, fresh, .. } = figures;
+        println!("| {} | {bytes} | {call:.0} | {:.0} | {alone:.2} | {:.1} | {fresh:.0} |", job.name, alone * bytes, alone / plain);
     }
 }
 
@@ -213,6 +233,7 @@ fn main() {
     let jobs: Vec<Job> = [trees::printed(), trees::realistic()].into_iter().chain([10, 100, 300, 1_000].map(trees::sized)).collect();
     let figures = compare(&jobs);
     lists();
+    manifests();
     stacks();
     let (_, answers) = examine(&jobs[1]);
     println!("\nanswers 0 to 7 of the realistic tree's questions: {answers:?}");

@@ -47,6 +47,94 @@ pub fn nested(name: &str, around: [(&str, &str); 2]) -> Job {
     Job { name: name.into(), tree, questions: vec![("/p".into(), "mat".into())], ..printed() }
 }
 
+// ---------------------------------------------------------------- manifests of 16 KiB
+
+/// Package mat with this manifest, asked for with this name; eight conditions, which with "default" make nine.
+fn with_manifest(name: &str, manifest: String, specifier: &str) -> Job {
+    assert!(manifest.len() <= 16_384, "{name}: {} bytes", manifest.len());
+    let mut tree = Tree::new();
+    file(&mut tree, "/p/node_modules/mat/x.js");
+    add(&mut tree, "/p/node_modules/mat/package.json", Some(manifest));
+    let settings = settings([&["c1", "c2", "c3", "c4", "c5", "c6", "c7", "c8"], &[".js"], &["main"], &["index"], &["exports"]]);
+    Job { name: name.into(), tree, settings, questions: vec![("/p".into(), specifier.into())] }
+}
+
+/// The manifest filled up to 16 KiB in the place of "FILL", by members with texts of 1,000 bytes.
+fn filled(manifest: String) -> String {
+    let mut fill = String::new();
+    for i in 0.. {
+        let left = 16_384 - (manifest.len() - 4) - fill.len();
+        if left < 20 {
+            break;
+        }
+        let comma = if i > 0 { "," } else { "" };
+        fill += &format!("{comma}\"x{i}\":\"{}\"", "a".repeat((left - 12).min(1_000)));
+    }
+    manifest.replacen("FILL", &fill, 1)
+}
+
+/// A manifest as packages have them, of 16 KiB.
+pub fn plain() -> Job {
+    let parts: String =
+        (0..90).map(|i| format!("    \"./part{i}\": {{ \"c1\": \"./x.js\", \"c2\": \"./dist/part{i}.cjs\" }},\n")).collect();
+    let head = "  \"name\": \"mat\",\n  \"version\": \"4.17.21\",\n  \"description\": \"A library of parts.\",\n";
+    let mut manifest = format!("{{\n{head}  \"exports\": {{\n{parts}    \".\": \"./x.js\"\n  }}");
+    for group in 0.. {
+        if manifest.len() > 15_000 {
+            break;
+        }
+        let packages: String = (0..60).map(|i| format!(",\n    \"package-{i}\": \"^{}.{}.0\"", i % 7, i % 11)).collect();
+        manifest += &format!(",\n  \"dependencies{group}\": {{\n    \"first\": 10.25{packages}\n  }}");
+    }
+    let blank = " ".repeat(16_384 - 2 - manifest.len());
+    with_manifest("plain", format!("{manifest}{blank}\n}}"), "mat/part45")
+}
+
+/// The manifests that cost a lookup most where names come more than once, or conditions are nested.
+pub fn worst() -> Vec<Job> {
+    let around = |levels: usize, open: &str, inside: &str, close: &str| {
+        (0..levels).fold(inside.to_string(), |value, _| format!("{open}{value}{close}"))
+    };
+    let exports = |value: String| format!("{{\"exports\":{value}}}");
+    let defaults = "\"default\":0,".repeat(127);
+    let others: String = (2..9).map(|i| format!(",\"c{i}\":0")).collect();
+    let key = |last: &str| format!("\"./{}*\":{last}", "\\u0061".repeat(18));
+    let keys = format!("{{{}{}}}", [key("0"), ",".into()].concat().repeat(127), key("\"./x.js\""));
+    vec![
+        with_manifest(
+            "128 members default in each of ten levels",
+            exports(around(10, &format!("{{{defaults}\"default\":"), "\"./x.js\"", "}")),
+            "mat",
+        ),
+        with_manifest(
+            "a condition before 127 members default, in each of ten levels",
+            exports(around(10, "{\"c1\":", "0", &format!(",{}\"default\":0}}", &defaults[..12 * 126]))),
+            "mat",
+        ),
+        with_manifest(
+            "nine conditions in each of 14 levels around a long value",
+            filled(exports(around(14, "{\"c1\":", "{FILL}", &format!("{others},\"default\":0}}")))),
+            "mat",
+        ),
+        with_manifest(
+            "the same, the long value last",
+            filled(exports(around(14, &format!("{{\"default\":0{others},\"c1\":"), "{FILL}", "}"))),
+            "mat",
+        ),
+        with_manifest(
+            "a long value before 126 members default",
+            filled(exports(format!("{{\"x\":{{FILL}},{}\"default\":\"./x.js\"}}", &defaults[..12 * 125]))),
+            "mat",
+        ),
+        with_manifest(
+            "128 exports fields",
+            format!("{{{}\"exports\":\"./x.js\"}}", format!("\"exports\":\"{}\",", "a".repeat(110)).repeat(127)),
+            "mat",
+        ),
+        with_manifest("128 times one star key, escaped", exports(keys), &format!("mat/{}b", "a".repeat(18))),
+    ]
+}
+
 // ---------------------------------------------------------------- a job as designers bring them
 
 #[rustfmt::skip]

@@ -42,7 +42,7 @@ enum {
     HANNUVOZH_MANIFEST_DIRECTORY = 32, /* a directory is named package.json */
     /* the package author can mend these; they are met only in what this lookup reads or builds */
     HANNUVOZH_MANIFEST_LIMIT = 40, /* a manifest is over a limit */
-    HANNUVOZH_MEMBER_TWICE = 41,   /* a manifest has a member name twice in one object */
+    /* 41 does not occur; the number stays reserved */
     HANNUVOZH_PATH_TOO_LONG = 42,  /* a path or target has over 2,048 bytes */
     /* the caller can mend this one: a larger limit, or none but the gateway's */
     HANNUVOZH_TOO_MANY_CONSULTS = 53 /* the lookup needs more consults than its limit */

@@ -238,7 +238,7 @@ fn deep_entry(tree: &mut Tree, components: usize) {
     }
 }
 
-/// A manifest at or past one of its limits, or with a name twice.
+/// A manifest at or past one of its limits.
 pub fn limit_manifest(rng: &mut Rng) -> Vec<u8> {
     let past = rng.chance(60);
     limit(past, rng).0
@@ -248,7 +248,13 @@ fn limit(past: bool, rng: &mut Rng) -> (Vec<u8>, u32) {
     let over = usize::from(past);
     let style = Style { blank: rng.below(2) * 5, escape: rng.below(2) * 20 };
     let exports = text(rng.one(&["./x.js", "./x", "./lib/x.js"]));
-    let around = |value: Value| object(vec![("exports", exports.clone()), ("x", value), ("main", text("x.js"))]);
+    let dropped = rng.chance(20);
+    // A value that a later member of its name replaces counts for the limits as any other.
+    let around = |value: Value| {
+        let mut members = vec![("exports", exports.clone()), ("x", value), ("main", text("x.js"))];
+        members.extend(dropped.then_some(("x", Value::Raw("1"))));
+        object(members)
+    };
     let (value, number) = match rng.below(6) {
         0 => {
             let mut bytes = write(&around(Value::Raw("1")), PLAIN, rng);
@@ -261,7 +267,7 @@ fn limit(past: bool, rng: &mut Rng) -> (Vec<u8>, u32) {
         2 => (around(Value::Array(vec![Value::Raw("0"); 128 + over])), 40),
         3 => (around(Value::Object((0..128 + over).map(|i| (format!("k{i}").into_bytes(), Value::Raw("0"))).collect())), 40),
         4 => (around(long_text(over, rng)), 40),
-        _ => (around(repeated(past, rng)), 41),
+        _ => (around(repeated(128 + over, rng)), 40),
     };
     (write(&value, style, rng), number)
 }
@@ -282,14 +288,10 @@ fn long_text(over: usize, rng: &mut Rng) -> Value {
     if rng.chance(30) { Value::Object(vec![(made, Value::Raw("1"))]) } else { Value::Text(made) }
 }
 
-fn repeated(past: bool, rng: &mut Rng) -> Value {
-    let count = rng.within(2, 20);
-    let mut members: Vec<(Vec<u8>, Value)> = (0..count).map(|i| (format!("k{i}").into_bytes(), Value::Raw("0"))).collect();
-    if past {
-        let at = rng.below(count);
-        members.push((members[at].0.clone(), text("./x.js")));
-    }
-    Value::Object(members)
+/// So many members, which count as they are written, of fewer names.
+fn repeated(count: usize, rng: &mut Rng) -> Value {
+    let names = rng.within(1, 127);
+    Value::Object((0..count).map(|_| (format!("k{}", rng.below(names)).into_bytes(), Value::Raw("0"))).collect())
 }
 
 /// RFC 8259's examples (section 13).
@@ -410,7 +412,8 @@ fn named(length: usize, rng: &mut Rng) -> Vec<u8> {
 
 /// Document 01's printed example.
 pub fn printed() -> World {
-    let mut world = World { tree: Tree::new(), settings: example_settings(), start: b"/p".to_vec(), specifier: b"mat/steel".to_vec() };
+    let mut world =
+        World { tree: Tree::new(), settings: example_settings(), start: b"/p".to_vec(), specifier: b"mat/steel".to_vec(), repeats: 0 };
     world.tree.insert(b"/".to_vec(), None);
     world.add_directory(b"/p");
     world.add(b"/p/node_modules/mat/lib/steel.js", Some(Vec::new()));
@@ -441,9 +444,53 @@ const EXPORTS: &[(&str, &[&str], &str, u32)] = &[
     (r#""\uD800""#, &[], "m", 7),
 ];
 
+/// Manifests of the same package in which a name comes more than once, files in it, what is asked, and the file that is found, or the
+/// number of another answer.
+const REPEATS: &[(&str, &[&str], &str, Result<&str, u32>)] = &[
+    // The last value counts: fields of the root, escapes taken into account.
+    (r#"{"main":"x","main":"y"}"#, &["x.js", "y.js"], "m", Ok("y.js")),
+    (r#"{"main":"x","m\u0061in":"y"}"#, &["x.js", "y.js"], "m", Ok("y.js")),
+    (r#"{"m\u0061in":"x","main":"y"}"#, &["x.js", "y.js"], "m", Ok("y.js")),
+    (r#"{"main":"y","main":1}"#, &["y.js", "index.js"], "m", Ok("index.js")),
+    (r#"{"exports":"./x.js","exports":"./y.js"}"#, &["x.js", "y.js"], "m", Ok("y.js")),
+    (r#"{"exports":"./x.js","exports":null}"#, &["x.js"], "m", Err(4)),
+    (r#"{"exports":[],"exports":{".":"./x.js"},"exports":"./y.js"}"#, &["x.js", "y.js"], "m", Ok("y.js")),
+    // Nothing is joined: a map that is replaced is gone.
+    (r#"{"exports":{"./x":"./x.js"},"exports":{"./y":"./y.js"}}"#, &["x.js", "y.js"], "m/x", Err(4)),
+    (r#"{"exports":{".":"./x.js","import":"./x.js"},"exports":"./y.js"}"#, &["x.js", "y.js"], "m", Ok("y.js")),
+    // Keys of an exports map.
+    (r#"{"exports":{".":"./x.js",".":"./y.js"}}"#, &["x.js", "y.js"], "m", Ok("y.js")),
+    (r#"{"exports":{"./a":"./x.js","./*":"./z.js","./\u0061":"./y.js"}}"#, &["x.js", "y.js", "z.js"], "m/a", Ok("y.js")),
+    (r#"{"exports":{"./*":"./x.js","./a*":null,"./*":"./y.js"}}"#, &["x.js", "y.js"], "m/b", Ok("y.js")),
+    (r#"{"exports":{"./f/":"./g/","./f/":"./h/"}}"#, &["g/x", "h/x"], "m/f/x", Ok("h/x")),
+    (r#"{"exports":{"./f/":"./g/","./f/":"./h"}}"#, &["g/x", "h/x"], "m/f/x", Err(6)),
+    (r#"{"exports":{"./a*":"./x.js","./a*":null,"./*":"./y.js"}}"#, &["x.js", "y.js"], "m/ab", Err(4)),
+    (r#"{"exports":{".":1,"import":2,".":"./x.js"}}"#, &["x.js"], "m", Err(5)),
+    // Conditions: the last value, in the first's place.
+    (r#"{"exports":{"import":"./x.js","import":"./y.js"}}"#, &["x.js", "y.js"], "m", Ok("y.js")),
+    (r#"{"exports":{"import":"./x.js","default":"./z.js","import":"./y.js"}}"#, &["x.js", "y.js", "z.js"], "m", Ok("y.js")),
+    (r#"{"exports":{"default":"./z.js","import":"./x.js","default":"./y.js"}}"#, &["x.js", "y.js", "z.js"], "m", Ok("y.js")),
+    (r#"{"exports":{"default":"./z.js","import":"./x.js","default":null}}"#, &["x.js", "z.js"], "m", Ok("x.js")),
+    (r#"{"exports":{"import":"./x.js","default":"./y.js","\u0069mport":null}}"#, &["x.js", "y.js"], "m", Ok("y.js")),
+    (r#"{"exports":{"import":"x?q","default":"./y.js","import":null}}"#, &["y.js"], "m", Ok("y.js")),
+    (r#"{"exports":{"import":"./x.js","import":"bad"}}"#, &["x.js"], "m", Err(3)),
+    (r#"{"exports":{"import":"bad","import":"./x.js"}}"#, &["x.js"], "m", Ok("x.js")),
+    // However deep, and in arrays.
+    (r#"{"exports":{"./a":{"import":{"default":"./x.js","default":"./y.js"}}}}"#, &["x.js", "y.js"], "m/a", Ok("y.js")),
+    (r#"{"exports":{"import":{"default":"./x.js"},"import":{"default":null,"default":"./y.js"}}}"#, &["x.js", "y.js"], "m", Ok("y.js")),
+    (r#"{"exports":["bad",{"default":"./x.js","default":"./y.js"}]}"#, &["x.js", "y.js"], "m", Ok("y.js")),
+    (r#"{"exports":{"import":[{"x":1,"x":2},{"default":1,"default":"./y.js"}]}}"#, &["x.js", "y.js"], "m", Ok("y.js")),
+    // Nothing is moved for names that look like whole numbers.
+    (r#"{"exports":{"import":"./x.js","0":"./z.js","0":"./z.js"}}"#, &["x.js", "z.js"], "m", Ok("x.js")),
+    (r#"{"exports":{"import":"./x.js","0":"./z.js","import":"./y.js"}}"#, &["x.js", "y.js", "z.js"], "m", Ok("y.js")),
+    // An empty name; a name of which another is the beginning.
+    (r#"{"":1,"":2,"main":"x","":3}"#, &["x.js"], "m", Ok("x.js")),
+    (r#"{"main":"x","mai":"y","mainn":"y"}"#, &["x.js", "y.js"], "m", Ok("x.js")),
+];
+
 fn package(manifest: &[u8], files: &[&str], specifier: &str) -> World {
-    let mut world =
-        World { tree: Tree::new(), settings: example_settings(), start: b"/p".to_vec(), specifier: specifier.as_bytes().to_vec() };
+    let (start, specifier) = (b"/p".to_vec(), specifier.as_bytes().to_vec());
+    let mut world = World { tree: Tree::new(), settings: example_settings(), start, specifier, repeats: 0 };
     world.tree.insert(b"/".to_vec(), None);
     world.add_directory(b"/p/node_modules/m");
     world.add(b"/p/node_modules/m/package.json", Some(manifest.to_vec()));
@@ -459,6 +506,13 @@ pub fn fixed() -> Vec<Case> {
     let mut all = vec![stated(printed(), 0)];
     for (exports, files, specifier, number) in EXPORTS {
         all.push(stated(package(format!("{{\"exports\":{exports}}}").as_bytes(), files, specifier), *number));
+    }
+    for (manifest, files, specifier, end) in REPEATS {
+        let world = package(manifest.as_bytes(), files, specifier);
+        if let Ok(file) = end {
+            assert_eq!(world.walked().end.texts[0], format!("/p/node_modules/m/{file}").into_bytes(), "{manifest}");
+        }
+        all.push(stated(world, end.err().unwrap_or(0)));
     }
     for example in RFC_EXAMPLES {
         all.push(stated(package(example.as_bytes(), &["index.js"], "m"), 0));

@@ -3,7 +3,7 @@
 
 use crate::broken;
 use crate::lent::{EXPORTS_FIELDS, EXTENSIONS, MOST, Row, Settings, Tree, is_path, is_specifier, lay, lay_settings, name_of, parent, rows};
-use crate::manifests::{Around, damaged};
+use crate::manifests::{Around, SOME_REPEATS, damaged};
 use crate::model;
 use crate::product::Question;
 use crate::rng::Rng;
@@ -57,9 +57,15 @@ pub struct World {
     pub settings: Settings,
     pub start: Vec<u8>,
     pub specifier: Vec<u8>,
+    /// `Around::repeats` of its manifests.
+    pub repeats: usize,
 }
 
 impl World {
+    pub fn around(&self) -> Around<'_> {
+        Around { settings: &self.settings, specifier: &self.specifier, repeats: self.repeats }
+    }
+
     pub fn case(&self) -> Case {
         self.case_with(&rows(&self.tree))
     }
@@ -125,6 +131,20 @@ pub fn case(seed: u64, number: u64) -> Case {
     }
 }
 
+/// Case `number` of `seed`, with names that come more than once in each manifest that has any.
+pub fn repeating(seed: u64, number: u64) -> Case {
+    let rng = &mut Rng::new(seed ^ 0x7265_7065, number);
+    let exporting = rng.chance(80);
+    let mut world = if exporting { exporting_world(rng) } else { bare_world(rng) };
+    world.repeats = 100;
+    if exporting {
+        export(&mut world, rng)
+    } else {
+        grow_some(&mut world, rng)
+    }
+    world.case()
+}
+
 /// The limit of a lookup that needs so many consults: mostly the gateway's; else exactly enough, one less, one more, or any.
 fn limit(needed: usize, rng: &mut Rng) -> u32 {
     let needed = needed as u32;
@@ -172,9 +192,8 @@ fn faulty(rng: &mut Rng) -> Case {
     let read: Vec<&model::Consult> = list.iter().filter(|consult| consult.state == 3).collect();
     if !read.is_empty() {
         let path = rng.pick(&read).path.clone();
-        let around = Around { settings: &world.settings, specifier: &world.specifier };
         let contents = match rng.below(10) {
-            0..=4 => damaged(&around.manifest(rng), rng),
+            0..=4 => damaged(&world.around().manifest(rng), rng),
             5 => damaged(&broken::limit_manifest(rng), rng),
             6 => broken::rfc_manifest(rng),
             _ => broken::limit_manifest(rng),
@@ -252,7 +271,8 @@ pub fn bare_world(rng: &mut Rng) -> World {
     let depth = if rng.chance(4) { rng.within(5, 30) } else { rng.below(5) };
     let start: Vec<u8> = (0..depth).flat_map(|_| [b"/", rng.text(DIRECTORIES)].concat()).collect();
     let start = if start.is_empty() { b"/".to_vec() } else { start };
-    let mut world = World { tree: Tree::new(), settings: settings(rng), start: start.clone(), specifier: specifier(rng) };
+    let (settings, specifier) = (settings(rng), specifier(rng));
+    let mut world = World { tree: Tree::new(), settings, start: start.clone(), specifier, repeats: SOME_REPEATS };
     world.tree.insert(b"/".to_vec(), None);
     world.add_directory(&start);
     world
@@ -261,8 +281,13 @@ pub fn bare_world(rng: &mut Rng) -> World {
 /// A bare world grown by entries at paths that its lookup asks for in vain.
 pub fn grown(rng: &mut Rng) -> World {
     let mut world = bare_world(rng);
+    grow_some(&mut world, rng);
+    world
+}
+
+fn grow_some(world: &mut World, rng: &mut Rng) {
     for _ in 0..rng.within(2, 14) {
-        grow(&mut world, rng);
+        grow(world, rng);
     }
     for _ in 0..rng.below(3) {
         let above: Vec<Vec<u8>> = world.tree.iter().filter(|entry| entry.1.is_none()).map(|entry| entry.0.clone()).collect();
@@ -270,22 +295,29 @@ pub fn grown(rng: &mut Rng) -> World {
         let directory = rng.chance(40);
         world.add(&path, if directory { None } else { Some(Vec::new()) });
     }
-    world
 }
 
 /// A package with exports, grown where they lead.
 fn exporting(rng: &mut Rng) -> World {
+    let mut world = exporting_world(rng);
+    export(&mut world, rng);
+    world
+}
+
+fn exporting_world(rng: &mut Rng) -> World {
     let mut world = broken::package_world(rng);
     if world.settings[EXPORTS_FIELDS].is_empty() {
         world.settings[EXPORTS_FIELDS].push(b"exports".to_vec());
     }
-    let around = Around { settings: &world.settings, specifier: &world.specifier };
-    let manifest = around.exporting(rng);
+    world
+}
+
+fn export(world: &mut World, rng: &mut Rng) {
+    let manifest = world.around().exporting(rng);
     world.tree.insert(b"/node_modules/a/package.json".to_vec(), Some(manifest));
     for _ in 0..rng.below(4) {
-        grow(&mut world, rng);
+        grow(world, rng);
     }
-    world
 }
 
 fn grow(world: &mut World, rng: &mut Rng) {
@@ -298,8 +330,7 @@ fn grow(world: &mut World, rng: &mut Rng) {
     if name_of(path) == b"package.json" {
         // A manifest near the root ends many lookups before they begin.
         if path.len() > 14 || rng.chance(30) {
-            let around = Around { settings: &world.settings, specifier: &world.specifier };
-            let contents = around.manifest(rng);
+            let contents = world.around().manifest(rng);
             world.add(path, Some(contents));
         }
         return;

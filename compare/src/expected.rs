@@ -1,5 +1,5 @@
 //! What a call must leave, worked out without the product: refusals before the lookup from document 01's words, the answer and
-//! list from the Rust, refusals 40 to 42 from the harness's own walk, 53 from the length of the list, and 20 and 21 from the buffers' lengths.
+//! list from the Rust, refusals 40 and 42 from the harness's own walk, 53 from the length of the list, and 20 and 21 from the buffers' lengths.
 
 use crate::cases::{Case, Room};
 use crate::lent::{Settings, Tree, is_specifier, read_listing, read_settings};

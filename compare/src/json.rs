@@ -1,4 +1,5 @@
-//! RFC 8259 within document 01's limits: a manifest's value, or the number of its earliest fault (7, 40 or 41).
+//! RFC 8259 within document 01's limits: a manifest's members as they are written, or the number of its earliest fault (7 or 40); and
+//! what JSON.parse of ECMA-262 makes of names that come more than once.
 
 pub enum Json {
     /// null, true, false or a number
@@ -10,6 +11,11 @@ pub enum Json {
 
 pub struct Member {
     pub name: Vec<u8>,
+    /// Whether the name is written with an escape.
+    pub escaped: bool,
+    /// How often the name comes, and whether an escape stands in some of its spellings only; as written, 1 and false.
+    pub times: usize,
+    pub respelled: bool,
     pub value: Json,
     /// From the name's opening quote to the value's end.
     pub from: usize,
@@ -19,7 +25,6 @@ pub struct Member {
 
 const MALFORMED: u32 = 7;
 const BEYOND: u32 = 40;
-const TWICE: u32 = 41;
 
 pub fn read(manifest: &[u8]) -> Result<Json, u32> {
     if manifest.len() > 16_384 {
@@ -32,6 +37,32 @@ pub fn read(manifest: &[u8]) -> Result<Json, u32> {
     let value = reader.value()?;
     reader.blank();
     if reader.at == manifest.len() { Ok(value) } else { Err(MALFORMED) }
+}
+
+/// The value of JSON.parse: in every object, however deep, the last value of a name in the place of its first member.
+pub fn settled(value: Json) -> Json {
+    match value {
+        Json::Object(members) => Json::Object(settled_members(members)),
+        Json::Array(elements) => Json::Array(elements.into_iter().map(settled).collect()),
+        value => value,
+    }
+}
+
+/// One property is created after the other; one that is there keeps its place and gets the new value.
+fn settled_members(members: Vec<Member>) -> Vec<Member> {
+    let mut made: Vec<Member> = Vec::new();
+    for member in members {
+        let value = settled(member.value);
+        match made.iter_mut().find(|known| known.name == member.name) {
+            None => made.push(Member { value, ..member }),
+            Some(known) => {
+                known.value = value;
+                known.times += 1;
+                known.respelled |= known.escaped != member.escaped;
+            }
+        }
+    }
+    made
 }
 
 struct Reader<'a> {
@@ -123,15 +154,13 @@ impl Reader<'_> {
             }
             let from = self.at;
             let name = self.string()?;
-            if members.iter().any(|member| member.name == name) {
-                return Err(TWICE);
-            }
+            let escaped = self.bytes[from..self.at].contains(&b'\\');
             self.blank();
             self.expect(b":")?;
             self.blank();
             let value_from = self.at;
             let value = self.value()?;
-            members.push(Member { name, value, from, value_from, to: self.at });
+            members.push(Member { name, escaped, times: 1, respelled: false, value, from, value_from, to: self.at });
             if self.closes(b'}')? {
                 return Ok(Json::Object(members));
             }

@@ -1,6 +1,7 @@
 //! The product beside the Rust: the same questions asked of both in one process.
 //!
 //!   compare cases N [SEED]      N distinct cases: number, texts, the whole list, every byte of every buffer
+//!   compare repeats N [SEED]    N distinct cases that the Rust decides, in each of which a name comes twice in an object that is looked at
 //!   compare pairs N [SEED]      N pairs of listings that agree where a lookup looked (demand 3)
 //!   compare garbage N [SEED]    N calls with damaged and random bytes and buffer lengths (demand 1)
 //!   compare vectors FILE        writes chosen cases with the Rust's answers
@@ -28,6 +29,7 @@ mod vectors;
 
 use cases::Case;
 use expected::{By, Expected};
+use points::Point;
 use product::Left;
 use std::collections::{BTreeMap, HashSet};
 use std::hash::{DefaultHasher, Hash, Hasher};
@@ -49,6 +51,8 @@ struct Report {
     by: BTreeMap<&'static str, u64>,
     marks: Vec<u64>,
     longest: usize,
+    /// Cases decided by the Rust, or by the walk in its place, that look at an object in which a name comes twice.
+    repeated: u64,
     faults: u64,
 }
 
@@ -146,6 +150,8 @@ impl Report {
         };
         *self.by.entry(by).or_default() += 1;
         self.longest = self.longest.max(expected.list.len());
+        let repeated = expected.marks.as_ref().is_some_and(|marks| marks[Point::Repeated as usize] > 0);
+        self.repeated += u64::from(repeated && want.number < 8 && matches!(expected.by, By::Rust | By::Walk));
         for (sum, reached) in self.marks.iter_mut().zip(expected.marks.iter().flatten()) {
             *sum += u64::from(*reached > 0);
         }
@@ -170,7 +176,7 @@ impl Report {
 
 /// What a run of a million cases must at least have seen.
 fn wanted(report: &Report, count: u64) -> bool {
-    let numbers = [(0..=7, 5_000), (20..=25, 500), (30..=32, 500), (40..=42, 500), (53..=53, 20_000)];
+    let numbers = [(0..=7, 5_000), (20..=25, 500), (30..=32, 500), (40..=40, 500), (42..=42, 500), (53..=53, 20_000)];
     let mut good = true;
     for (range, least) in numbers {
         for number in range {
@@ -205,6 +211,26 @@ fn compare(count: u64, seed: u64) -> bool {
     wanted(&report, count) && report.faults == 0
 }
 
+/// Cases in which names come more than once. Counted are those that the Rust decides and in which it looks at such an object.
+fn repeats(count: u64, seed: u64) -> bool {
+    let mut report = Report::new();
+    let mut number = 0;
+    while report.repeated < count && number < 20 * count {
+        report.ask(&number.to_string(), &cases::repeating(seed, number));
+        number += 1;
+    }
+    report.print();
+    println!(
+        "{} of them decided {} with a name that comes twice",
+        report.repeated,
+        if rust::AT_HAND { "by the Rust" } else { "by the walk" }
+    );
+    let kinds = [Point::RepeatedField, Point::RepeatedKey, Point::RepeatedCondition, Point::RepeatedDeep, Point::RepeatedEscape];
+    let few = kinds.into_iter().find(|&kind| report.marks[kind as usize] < count / 20);
+    few.iter().for_each(|&kind| println!("too few: {}", points::POINTS[kind as usize]));
+    few.is_none() && report.repeated >= count && report.faults == 0
+}
+
 fn one(number: u64, seed: u64) -> bool {
     let case = cases::case(seed, number);
     print_case(&case);
@@ -237,6 +263,7 @@ fn run() -> Option<bool> {
     let seed = number(2, SEED)?;
     Some(match args.first()?.as_str() {
         "cases" => compare(number(1, 1_000_000)?, seed),
+        "repeats" => repeats(number(1, 300_000)?, seed),
         "pairs" => pairs::run(number(1, 20_000)?, seed),
         "garbage" => garbage::run(number(1, 1_000_000)?, seed),
         "one" => one(number(1, 0)?, seed),
@@ -252,7 +279,7 @@ fn main() -> ExitCode {
         Some(false) => ExitCode::FAILURE,
         None => {
             eprintln!(
-                "compare cases N [SEED] | pairs N [SEED] | garbage N [SEED] | vectors FILE | replay FILE | real FOLDER [FILE] | one NUMBER [SEED]"
+                "compare cases N [SEED] | repeats N [SEED] | pairs N [SEED] | garbage N [SEED] | vectors FILE | replay FILE | real FOLDER [FILE] | one NUMBER [SEED]"
             );
             ExitCode::FAILURE
         }

@@ -1,4 +1,5 @@
-//! Manifests: values of every JSON kind around the question asked, written with white space and escapes, whole or damaged.
+//! Manifests: values of every JSON kind around the question asked, with names that come once or more often, written with white space
+//! and escapes, whole or damaged.
 
 use crate::lent::{CONDITIONS, EXPORTS_FIELDS, MAIN_FIELDS, Settings};
 use crate::names::{dot_subpath, package_name, strip_package_name};
@@ -155,13 +156,19 @@ const CONDITIONS_TOO: &[&str] = &[
 pub struct Around<'a> {
     pub settings: &'a Settings,
     pub specifier: &'a [u8],
+    /// The chance, in percent, that names come more than once in a manifest.
+    pub repeats: usize,
 }
 
+/// `Around::repeats` of an ordinary case.
+pub const SOME_REPEATS: usize = 20;
+
 impl Around<'_> {
-    /// A manifest's bytes, faultless unless a name comes twice by chance of the settings.
+    /// A manifest's bytes, faultless.
     pub fn manifest(&self, rng: &mut Rng) -> Vec<u8> {
         let style = style(rng);
         let value = self.root(rng);
+        let value = self.with_repeats(value, rng);
         let mut bytes = write(&value, style, rng);
         if rng.chance(3) {
             bytes.splice(0..0, [0xEF, 0xBB, 0xBF]);
@@ -172,7 +179,11 @@ impl Around<'_> {
     /// A manifest whose first exports field is asked for the package's subpath.
     pub fn exporting(&self, rng: &mut Rng) -> Vec<u8> {
         let subpath = dot_subpath(&self.specifier[package_name(self.specifier).len()..]);
-        let exports = if rng.chance(30) { self.folders(&subpath, rng) } else { self.exports(&subpath, rng) };
+        let exports = match rng.below(10) {
+            0..=2 => self.folders(&subpath, rng),
+            3..=6 if rng.chance(self.repeats) => self.nested(&subpath, rng),
+            _ => self.exports(&subpath, rng),
+        };
         let mut members = vec![(self.settings[EXPORTS_FIELDS][0].clone(), exports)];
         for field in &self.settings[MAIN_FIELDS] {
             if rng.chance(30) {
@@ -181,7 +192,46 @@ impl Around<'_> {
         }
         rng.shuffle(&mut members);
         let style = style(rng);
-        write(&without_repeats(members), style, rng)
+        let value = self.with_repeats(without_repeats(members), rng);
+        write(&value, style, rng)
+    }
+
+    /// The value, in some cases with names that come more than once, in objects of every kind.
+    fn with_repeats(&self, mut value: Value, rng: &mut Rng) -> Value {
+        if rng.chance(self.repeats) {
+            let subpath = dot_subpath(&self.specifier[package_name(self.specifier).len()..]);
+            self.repeat(&mut value, &subpath, 0, rng);
+        }
+        value
+    }
+
+    fn repeat(&self, value: &mut Value, subpath: &[u8], depth: usize, rng: &mut Rng) {
+        match value {
+            Value::Object(members) => {
+                for member in members.iter_mut() {
+                    self.repeat(&mut member.1, subpath, depth + 1, rng);
+                }
+                while !members.is_empty() && members.len() < 100 && rng.chance(if depth == 0 { 35 } else { 60 }) {
+                    let name = rng.pick(members).0.clone();
+                    let other = self.other(&name, members, subpath, depth, rng);
+                    members.insert(rng.below(members.len() + 1), (name, other));
+                }
+            }
+            Value::Array(elements) => elements.iter_mut().for_each(|element| self.repeat(element, subpath, depth + 1, rng)),
+            _ => {}
+        }
+    }
+
+    /// A value for one more member of a name: often one that another member of the object has, so that the two can change places.
+    fn other(&self, name: &[u8], members: &[(Vec<u8>, Value)], subpath: &[u8], depth: usize, rng: &mut Rng) -> Value {
+        match rng.below(4) {
+            0 => rng.pick(members).1.clone(),
+            1 => scalar(rng),
+            _ if depth == 0 && self.settings[EXPORTS_FIELDS].iter().any(|field| field == name) => self.exports(subpath, rng),
+            _ if depth == 0 => self.main(rng),
+            // The depth of what is put in is that of its surroundings, within the limit of brackets.
+            _ => self.target(subpath, rng, depth.max(4)),
+        }
     }
 
     /// Folder keys and star keys of one beginning.
@@ -348,6 +398,18 @@ impl Around<'_> {
     fn conditions(&self, subpath: &[u8], rng: &mut Rng, depth: usize) -> Value {
         let count = rng.below(5);
         without_repeats((0..count).map(|_| (self.condition(rng), self.target(subpath, rng, depth + 1))).collect())
+    }
+
+    /// Conditions in conditions, most of which hold, for "." or under the subpath's own key.
+    fn nested(&self, subpath: &[u8], rng: &mut Rng) -> Value {
+        let mut value = self.target(subpath, rng, 6);
+        for _ in 0..rng.within(1, 4) {
+            let mut members = vec![(self.condition(rng), self.target(subpath, rng, 6)), (b"default".to_vec(), value)];
+            members.extend(self.settings[CONDITIONS].first().map(|name| (name.clone(), self.target(subpath, rng, 6))));
+            rng.shuffle(&mut members);
+            value = without_repeats(members);
+        }
+        if subpath == b"." && rng.chance(50) { value } else { Value::Object(vec![(subpath.to_vec(), value)]) }
     }
 
     /// Conditions and arrays around a text, up to the limit of depth and past it.

@@ -1,4 +1,4 @@
-//! The lookup in plain steps, for what the Rust cannot tell: where a lookup meets refusals 40, 41, 42 and 53, and which routines and
+//! The lookup in plain steps, for what the Rust cannot tell: where a lookup meets refusals 40, 42 and 53, and which routines and
 //! branches a case reaches. It is trusted with neither alone: on every case without such a refusal its answer and list must be
 //! the Rust's own.
 //!
@@ -122,6 +122,17 @@ impl Walk<'_> {
         }
     }
 
+    /// Marks names that come more than once, in an object that the lookup looks at.
+    fn mark_repeats(&mut self, members: &[Member], point: Point) {
+        let repeats = || members.iter().filter(|member| member.times > 1);
+        if repeats().next().is_some() {
+            self.mark(Point::Repeated);
+            self.mark(point);
+            self.mark_if(repeats().any(|member| member.respelled), Point::RepeatedEscape);
+            self.mark_if(repeats().any(|member| member.times > 2), Point::RepeatedThrice);
+        }
+    }
+
     /// One consult, or refusal 53 where the limit allows no more.
     fn note(&mut self, state: u8, path: &[u8]) -> Look<()> {
         if self.list.len() == self.limit {
@@ -178,17 +189,17 @@ impl Walk<'_> {
     fn manifest(&mut self, path: &[u8], contents: &[u8]) -> Look<Rc<Json>> {
         let known = self.read.iter().find(|known| known.0 == path).map(|known| known.1.clone());
         let read = known.unwrap_or_else(|| {
-            let read = json::read(contents).map(Rc::new);
+            let read = json::read(contents).map(json::settled).map(Rc::new);
             self.read.push((path.to_vec(), read.clone()));
             read
         });
         self.mark_if(contents.starts_with(&[0xEF, 0xBB, 0xBF]), Point::ManifestBom);
-        read.inspect(|json| self.mark_if(!matches!(**json, Json::Object(_)), Point::ManifestNoObject)).map_err(|number| {
-            self.mark(match number {
-                7 => Point::Fault7,
-                40 => Point::Fault40,
-                _ => Point::Fault41,
-            });
+        let read = read.inspect(|json| match &**json {
+            Json::Object(members) => self.mark_repeats(members, Point::RepeatedField),
+            _ => self.mark(Point::ManifestNoObject),
+        });
+        read.map_err(|number| {
+            self.mark(if number == 7 { Point::Fault7 } else { Point::Fault40 });
             if number == 7 { End::new(7, &[path]) } else { End::new(number, &[]) }
         })
     }
@@ -411,6 +422,9 @@ impl Walk<'_> {
 
     fn package_exports_resolve(&mut self, directory: &[u8], subpath: &[u8], exports: &Json) -> Look<Place> {
         if let Json::Object(members) = exports {
+            if members.iter().any(|member| is_dot_key(&member.name)) {
+                self.mark_repeats(members, Point::RepeatedKey);
+            }
             let dots = members.iter().filter(|member| is_dot_key(&member.name)).count();
             if dots > 0 && dots < members.len() {
                 self.mark(Point::ExportsMixed);
@@ -521,6 +535,7 @@ impl Walk<'_> {
     }
 
     fn conditions(&mut self, request: &Request, members: &[Member], context: &mut Place, depth: usize) -> Look<bool> {
+        self.mark_repeats(members, if depth == 0 { Point::RepeatedCondition } else { Point::RepeatedDeep });
         for member in members {
             if member.name == b"default" {
                 self.mark(Point::TargetDefault);

@@ -1,11 +1,11 @@
 //! Demand 3 on calls: two listings that agree at every path the first one's lookup consulted, whatever they hold elsewhere and
-//! exports maps of subpath keys reordered, must end alike to the last byte, stopped lookups and other refusals included.
+//! exports maps of distinct subpath keys reordered, must end alike to the last byte, stopped lookups and other refusals included.
 
 use crate::cases::{self, Case};
 use crate::expected;
 use crate::json::{self, Json, Member};
 use crate::lent::{EXPORTS_FIELDS, Settings, Tree, is_path, lay, name_of, parent, rows};
-use crate::manifests::{Around, damaged};
+use crate::manifests::{Around, SOME_REPEATS, damaged};
 use crate::model::{self, Walked};
 use crate::product;
 use crate::rng::Rng;
@@ -99,7 +99,8 @@ impl Other<'_> {
         for member in members.iter().filter(|member| self.settings[EXPORTS_FIELDS].contains(&member.name)) {
             if let Json::Object(map) = &member.value {
                 let subpath = |key: &[u8]| key == b"." || key.starts_with(b"./") || key.starts_with(b"#");
-                if map.len() > 1 && map.iter().all(|entry| subpath(&entry.name)) {
+                let distinct = map.iter().enumerate().all(|(i, entry)| map[..i].iter().all(|before| before.name != entry.name));
+                if map.len() > 1 && distinct && map.iter().all(|entry| subpath(&entry.name)) {
                     let text = self.map_text(&manifest, member, map);
                     out[member.value_from..member.to].copy_from_slice(&text);
                 }
@@ -147,7 +148,7 @@ impl Seen {
     fn pair(&mut self, case: &Case, rng: &mut Rng) {
         let Ok(accepted) = expected::accept(case, case.work()) else { return };
         let walked = model::lookup(&accepted.tree, &accepted.settings, &case.start, &case.specifier, case.limit as usize);
-        let around = Around { settings: &accepted.settings, specifier: &case.specifier };
+        let around = Around { settings: &accepted.settings, specifier: &case.specifier, repeats: SOME_REPEATS };
         let mut other = Other { rng, settings: &accepted.settings, around, reordered: false };
         let tree = other.tree(&accepted.tree, &case.start, &walked);
         let reordered = other.reordered;

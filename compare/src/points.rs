@@ -103,7 +103,14 @@ points! {
     ManifestNoObject "package_json: the root is no object",
     Fault7 "package_json: a fault",
     Fault40 "package_json: over a limit",
-    Fault41 "package_json: a name twice",
+    // The last ones, for vectors.rs.
+    Repeated "a name comes twice in an object that is looked at",
+    RepeatedField "package_json: a field comes twice",
+    RepeatedKey "package_exports_resolve: a key comes twice",
+    RepeatedCondition "package_target_resolve: a condition comes twice",
+    RepeatedDeep "package_target_resolve: a condition comes twice inside a target",
+    RepeatedEscape "a name comes twice, with an escape in one spelling only",
+    RepeatedThrice "a name comes three times or more",
 }
 
 /// How often each point was reached.

@@ -54,7 +54,8 @@ fn dependencies(manifest: &[u8]) -> Vec<Vec<u8>> {
 
 /// The world of one question, cut from the whole tree.
 fn cut(tree: &Tree, start: &[u8], specifier: &[u8]) -> World {
-    let mut world = World { tree: Tree::new(), settings: settings(), start: start.to_vec(), specifier: specifier.to_vec() };
+    let (settings, specifier) = (settings(), specifier.to_vec());
+    let mut world = World { tree: Tree::new(), settings, start: start.to_vec(), specifier, repeats: 0 };
     world.tree.insert(b"/".to_vec(), None);
     world.add_directory(start);
     loop {

@@ -5,7 +5,7 @@ use crate::broken;
 use crate::cases::{self, Case, GATEWAY, Room};
 use crate::expected::{self, Expected};
 use crate::lent::{read_listing, read_settings, word};
-use crate::points;
+use crate::points::{self, Point};
 use crate::product::{self, Left, Rooms};
 use crate::rng::Rng;
 use crate::rust;
@@ -20,6 +20,8 @@ const HEADER: usize = 60;
 const OF_ANSWER: u64 = 80;
 const OF_REFUSAL: u64 = 30;
 const OF_POINT: u64 = 12;
+/// And of each kind of object in which a name comes more than once.
+const OF_REPEAT: u64 = 40;
 
 /// Which cases are kept.
 #[derive(Clone, Copy)]
@@ -63,8 +65,9 @@ impl Chosen {
     fn wants(&self, want: &Left, expected: &Expected) -> bool {
         let least = if want.number < 8 { OF_ANSWER } else { OF_REFUSAL };
         let number = self.numbers.get(&want.number).copied().unwrap_or(0) < least;
-        let reached = expected.marks.iter().flatten().zip(&self.marks);
-        number || reached.into_iter().any(|(&reached, &kept)| reached > 0 && kept < OF_POINT)
+        let least = |point: usize| if point >= Point::Repeated as usize { OF_REPEAT } else { OF_POINT };
+        let mut reached = expected.marks.iter().flatten().zip(&self.marks).enumerate();
+        number || reached.any(|(point, (&reached, &kept))| reached > 0 && kept < least(point))
     }
 
     fn lent(&mut self, bytes: &[u8], before: fn(&mut Self) -> &mut Vec<u8>, body: &mut Vec<u8>) -> u32 {
@@ -140,10 +143,11 @@ fn siblings(case: &Case, rng: &mut Rng) -> Vec<Case> {
     all
 }
 
-/// Limits at their value and one past: few of these are small, and each is kept.
+/// Limits at their value and one past: few of these are small, and each is kept; of the others some.
 fn limits(seed: u64) -> impl Iterator<Item = Case> {
-    let small = |case: &Case| case.listing.len() < 5_000;
-    (0..100).map(move |number| broken::at_a_limit(&mut Rng::new(seed ^ 0x6c69_6d69, number))).filter(small)
+    let case = move |number| broken::at_a_limit(&mut Rng::new(seed ^ 0x6c69_6d69, number));
+    let length = |number| if number < 30 { 20_000 } else { 5_000 };
+    (0..100).map(move |number| (number, case(number))).filter(move |(number, case)| case.listing.len() < length(*number)).map(|kept| kept.1)
 }
 
 fn choose(seed: u64) -> Result<Chosen, String> {
@@ -159,6 +163,9 @@ fn choose(seed: u64) -> Result<Chosen, String> {
                 chosen.offer(&sibling, Fit::Small)?;
             }
         }
+    }
+    for number in 0..10_000 {
+        chosen.offer(&cases::repeating(seed, number), Fit::Wanted)?;
     }
     Ok(chosen)
 }

@@ -162,8 +162,6 @@ pub enum Refusal {
     ManifestDirectory,
     /// 40: a manifest that the lookup reads is over a limit.
     ManifestLimit,
-    /// 41: a manifest that the lookup reads has a member name twice in one object.
-    MemberTwice,
     /// 42: a path or target that the lookup builds has over 2,048 bytes.
     PathTooLong,
     /// 53: the lookup wants to make one consult more than its limit.
@@ -171,7 +169,8 @@ pub enum Refusal {
 }
 
 impl Refusal {
-    const ALL: [(u32, Self); 13] = [
+    /// 41 does not occur; the number stays reserved.
+    const ALL: [(u32, Self); 12] = [
         (20, Self::ResultTooShort),
         (21, Self::ListTooShort),
         (22, Self::Specifier),
@@ -182,7 +181,6 @@ impl Refusal {
         (31, Self::ListingPaths),
         (32, Self::ManifestDirectory),
         (40, Self::ManifestLimit),
-        (41, Self::MemberTwice),
         (42, Self::PathTooLong),
         (53, Self::TooManyConsults),
     ];
@@ -222,7 +220,6 @@ impl fmt::Display for Refusal {
             Self::ListingPaths => "a path of the listing breaks a rule, or the paths do not rise",
             Self::ManifestDirectory => "a directory of the listing is named package.json",
             Self::ManifestLimit => "a package.json on the way is over a limit",
-            Self::MemberTwice => "a package.json on the way has a member name twice in one object",
             Self::PathTooLong => "a path or target on the way has over 2,048 bytes",
             Self::TooManyConsults => "the lookup needs more consults than its limit allows",
         })

@@ -28,6 +28,7 @@ mod library;
 mod listing;
 mod lookup;
 mod options;
+mod repeats;
 mod settings;
 
 pub use answer::{Answer, Refusal, Refused};
@@ -35,4 +36,5 @@ pub use disk::{Packed, resolve, resolve_with};
 pub use listing::Listing;
 pub use lookup::{Buffers, Consult, Consults, Lookup, State, lookup, lookup_with};
 pub use options::Options;
+pub use repeats::{Repeat, repeats};
 pub use settings::Settings;

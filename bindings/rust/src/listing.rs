@@ -112,6 +112,12 @@ impl Listing {
         self.entries.keys().map(Vec::as_slice)
     }
 
+    /// The manifests: path and contents of each package.json, in the listing's order.
+    pub fn manifests(&self) -> impl Iterator<Item = (&[u8], &[u8])> {
+        let manifests = self.entries.iter().filter(|(path, _)| path.ends_with(b"/package.json"));
+        manifests.filter_map(|(path, contents)| Some((&path[..], contents.as_deref()?)))
+    }
+
     /// The listing's bytes: entry count, text length, path lengths, contents lengths, then each path with its contents.
     #[must_use]
     pub fn to_bytes(&self) -> Vec<u8> {

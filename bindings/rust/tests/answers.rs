@@ -74,9 +74,33 @@ fn refusals() {
     let manifest = Listing::new().directory("/package.json").to_bytes();
     assert_eq!(refused(lookup(&manifest, &settings, "/", "a")), (Refusal::ManifestDirectory, 0));
     assert_eq!(refused(ask(&" ".repeat(16_385), &[], "m")), (Refusal::ManifestLimit, 6));
-    assert_eq!(refused(ask(r#"{"a":1,"a":2}"#, &[], "m")), (Refusal::MemberTwice, 6));
     let long = format!("m/{}", "x".repeat(500));
     assert_eq!(refused(ask(r#"{"exports":{"./*":"./*****"}}"#, &[], &long)), (Refusal::PathTooLong, 6));
+}
+
+/// The last value of a name counts, in the place of its first member, in every object; escapes are taken into account.
+#[test]
+fn repeated_names() {
+    let files = ["x.js", "y.js", "z.js"];
+    let rows = [
+        (r#"{"main":"x","main":"y"}"#, "m", "y.js"),
+        (r#"{"main":"x","m\u0061in":"y"}"#, "m", "y.js"),
+        (r#"{"exports":"./x.js","main":"z","exports":"./y.js"}"#, "m", "y.js"),
+        (r#"{"exports":{"./a":"./x.js","./*":"./z.js","./a":"./y.js"}}"#, "m/a", "y.js"),
+        (r#"{"exports":{"./*":"./x.js","./b*":null,"./\u002a":"./y.js"}}"#, "m/a", "y.js"),
+        (r#"{"exports":{"import":"./x.js","default":"./z.js","import":"./y.js"}}"#, "m", "y.js"),
+        (r#"{"exports":{"default":"./x.js","import":"./z.js","default":"./y.js"}}"#, "m", "y.js"),
+        (r#"{"exports":{"default":"./x.js","import":"./y.js","default":null}}"#, "m", "y.js"),
+        (r#"{"exports":{".":[{"import":{"default":"./x.js","default":"./y.js"}}]}}"#, "m", "y.js"),
+        (r#"{"exports":{"import":"./y.js","0":"./z.js","0":"./x.js"}}"#, "m", "y.js"),
+    ];
+    for (manifest, specifier, file) in rows {
+        let found = Answer::Found { path: format!("/p/node_modules/m/{file}"), query: String::new(), fragment: String::new() };
+        assert_eq!(answer(manifest, &files, specifier), found, "{manifest}");
+    }
+    let many = |count: usize| format!("{{{}\"main\":\"y\"}}", "\"main\":\"x\",".repeat(count - 1));
+    assert_eq!(answer(&many(128), &files, "m").number(), 0);
+    assert_eq!(refused(ask(&many(129), &files, "m")), (Refusal::ManifestLimit, 6));
 }
 
 /// Every limit below what a lookup needs stops it; every other leaves answer and list as they are.

@@ -57,6 +57,33 @@ fn resolve_on_disk() {
 }
 
 #[test]
+fn check() {
+    let folder = folder("check");
+    let package = |name: &str, manifest: &str| {
+        let package = folder.join("job/p/node_modules").join(name);
+        fs::create_dir_all(&package).unwrap();
+        fs::write(package.join("package.json"), manifest).unwrap();
+    };
+    let checked = run(&folder, &["check", "job"]);
+    assert_eq!((checked.status.code(), text(&checked).as_str()), (Some(0), "1 manifests, 0 warnings\n"));
+    package("a", r#"{"main":"x", "exports":{"./k":[{"import":1,"\u0069mport":2,"import":{"a":null}}]}, "main" : "y" }"#);
+    let checked = run(&folder, &["check", "job"]);
+    let warnings = "/p/node_modules/a/package.json: warning: the name \"import\" comes 3 times in exports > ./k > 0; \
+                    its last value counts, in the place of the first: {\"a\":null}\n\
+                    /p/node_modules/a/package.json: warning: the name \"main\" comes 2 times in the root; \
+                    its last value counts, in the place of the first: \"y\"\n";
+    assert_eq!((checked.status.code(), text(&checked)), (Some(0), format!("{warnings}2 manifests, 2 warnings\n")));
+    package("b", "{");
+    package("c", &" ".repeat(16_385));
+    package("d", &" ".repeat(100_000));
+    let faults = "/p/node_modules/b/package.json: not JSON\n/p/node_modules/c/package.json: over a limit\n\
+                  /p/node_modules/d/package.json: over a limit\n";
+    let checked = run(&folder, &["check", "job"]);
+    assert_eq!((checked.status.code(), text(&checked)), (Some(2), format!("{warnings}{faults}5 manifests, 2 warnings\n")));
+    fs::remove_dir_all(folder).unwrap();
+}
+
+#[test]
 fn limits() {
     let folder = folder("limits");
     let question = ["resolve", "job", "/p", "mat/steel", "--exports-field", "exports"];

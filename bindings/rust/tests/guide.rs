@@ -67,6 +67,16 @@ fn an_example_of_each_answer() {
 }
 
 #[test]
+fn repeated_names() {
+    let rows = rows("Repeated names");
+    for row in &rows {
+        let &[manifest, files, specifier, printed] = &row[..] else { panic!("a row of four cells: {row:?}") };
+        assert_eq!(asked(manifest, files, specifier), printed, "{row:?}");
+    }
+    assert_eq!(rows.len(), 5);
+}
+
+#[test]
 fn which_export_applies() {
     let rows = rows("Which export applies");
     for row in &rows {

@@ -6,9 +6,9 @@ use Prim.Native.Nat.{ℕ, _≤_}
 use lib.ListN.{length, drop, take}
 use Rattle.definition.specs.Text.{Text, overwrite}
 use Rattle.definition.specs.Path.{Built, built, tooLong, manifestOf}
-use Rattle.definition.specs.Json.{Json, scalar, Read, got, fault, parse}
+use Rattle.definition.specs.Json.{Json, scalar, Read, got, fault, parse, settled}
 use Rattle.definition.specs.JsonAt.{Told, textAt}
-use Rattle.laws.specs.JsonAtLaws.{Stands}
+use Rattle.package_json.specs.Values.{Stands}
 use Rattle.laws.specs.ListingSteps.{part}
 use Rattle.definition.specs.Settings.{Settings}
 use Rattle.definition.specs.Ask.{Step, go, stop, Ask, ret, _>>=_, _>>_}
@@ -42,7 +42,7 @@ judged x = do
 
 -- the value of a manifest
 abbrev pub valueOf : Read Json → Json
-valueOf (got j r) = j
+valueOf (got j r) = settled j
 valueOf (fault f) = scalar
 
 abbrev pub jsonOf : Text → Json

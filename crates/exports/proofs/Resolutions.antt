@@ -1,5 +1,5 @@
 -- Keys, the main export, and the exports field as a whole.
-use mathlib.Core.Path.{_≡_, refl, sym, _∙_, ap}
+use mathlib.Core.Path.{_≡_, refl, sym, _∙_, ap, subst}
 use mathlib.Core.Bool.{Bool, true, false, not, _&&_}
 use mathlib.Core.List.{List}
 use mathlib.Core.Option.{Option, none, some}
@@ -13,7 +13,6 @@ use Rattle.definition.specs.Settings.{textsOf}
 use Rattle.definition.specs.Exports as exports
 use Rattle.definition.specs.Exports.{Request, failed, InvalidPackageConfig, orGoOn, pathNotExported, Entry, entries, get, anyKey, isDotKey, isSubpathKey, patternMatch, best, literal, asSelected, literalOr, select, selectedResolve, PACKAGE-TARGET-RESOLVE, PACKAGE-IMPORTS-EXPORTS-RESOLVE, isMixed, dotOr, mainExport, mainResolve, keyResolve, PACKAGE-EXPORTS-RESOLVE}
 use Rattle.definition.specs.JsonAt.{getAt}
-use Rattle.laws.specs.JsonAtLaws as at
 use Rattle.package_target.specs.Places.{Stands, kindOf}
 use Rattle.package_json.specs.declared.Cursor.{Cursor}
 use Rattle.package_json.specs.declared.Cursor.the-variants.{At as FoundAt, Nothing as NotFound}
@@ -33,7 +32,12 @@ use Rattle.targets.specs.Contexts.{readText, contextOf}
 use Rattle.targets.specs.Answers.{outcomeIn, answerOf, Formed}
 use Rattle.package_target.specs.Answers.{Requested, isNothing}
 use Rattle.exports.specs.Chosen.{Finds, Chosen, BestOf, formOf, keyText, resolvedOf, dotRequest, keysOrNot, IsWhole}
+use Rattle.package_json.specs.Values as values
+use Rattle.package_json.proofs.Values.{get-here}
+use Rattle.package_target.proofs.Places.{stands-at}
+use Rattle.exports.proofs.Objects.{best-value}
 use Rattle.package_target.proofs.Loops.{nothingYet, go-stop, go-on}
+use Rattle.definition.specs.Manifest.{field}
 
 clash : {P : Type 0} → true ≡ false → P
 clash e = absurd (let z : _≡_ {A = ℕ} 0 1 = cc in omega arith)
@@ -47,13 +51,15 @@ subpath-is m url subpath path r c o e =
     ∙ ap (λ x. record { context = contextOf m c; outcome = outcomeIn url (keyText m subpath x) (matchOf subpath (r .matched)) o (take (r .answer .len) path) }) (e .2)
 
 -- a member's value that was looked for
-finds-from : (m : List ℕ) (d : ℕ) (o : Option Json) (c : Cursor) → at.Finds d o (placed m c) → Finds m d o c
-finds-from m d (some j) (FoundAt i) (at.finds h) = record { here = h }
-finds-from m d none NotFound at.finds-none = tt
+finds-from : (m : List ℕ) (d : ℕ) (o : Option Json) (c : Cursor) → values.Finds d o (placed m c) → Finds m d o c
+finds-from m d (some j) (FoundAt i) (values.finds h) = stands-at h
+finds-from m d none NotFound values.finds-none = tt
 
 pub get-finds : (m : List ℕ) (i : ℕ) (c : Cursor) (k : List ℕ) → placed m c ≡ getAt k (drop i m) → (d : ℕ) (ms : Members) → Stands m (suc d) i (obj ms) → Finds m d (get k (entries ms)) c
-unfolding getAt
-get-finds m i c k e d ms h = finds-from m d (get k (entries ms)) c (rw e (at.find-here 128 k (at.first-member (h .here))))
+unfolding field
+get-finds m i c k e d ms h =
+    let there : values.Stands (suc d) (drop i m) (obj ms) = record { written = h .written; there = h .there .here; means = h .means } in
+    finds-from m d (get k (entries ms)) c (rw e (get-here k there))
 
 pub finds-some : (m : List ℕ) (d : ℕ) (o : Option Json) (r : Cursor) (i : ℕ) → Finds m d o r → r ≡ FoundAt i → (j : Json) × ((o ≡ some j) × Stands m d i j)
 finds-some m d (some j) r i h e = (j, (refl, rw e at h))
@@ -62,6 +68,17 @@ finds-some m d none r i h e = absurd (rw e at h)
 pub finds-none : (m : List ℕ) (d : ℕ) (o : Option Json) (r : Cursor) → Finds m d o r → r ≡ NotFound → o ≡ none
 finds-none m d (some j) r h e = absurd (rw e at h)
 finds-none m d none r h e = refl
+
+-- the value of the best entry's key
+pub target-found : (m mk : List ℕ) (b : Best) (ms : Members) (i : ℕ) (e : Entry) (r : Cursor) → Stands m 15 i (obj ms) → best mk none (entries ms) ≡ some e
+    → Finds m 14 (get (e .key) (entries ms)) r → Finds m 14 (some (e .target)) r
+target-found m mk b ms i e r h p f = subst (λ o. Finds m 14 o r) (best-value m mk 15 i ms e h p) f
+
+pub finds-at : (m : List ℕ) (d : ℕ) (j : Json) (r : Cursor) {i : ℕ} → Finds m d (some j) r → r ≡ FoundAt i → Stands m d i j
+finds-at m d j r f e = rw e at f
+
+pub finds-not : (m : List ℕ) (d : ℕ) (j : Json) (r : Cursor) → Finds m d (some j) r → r ≡ NotFound → ⊥
+finds-not m d j r f e = rw e at f
 
 module _ (m mk : List ℕ) (es : List Entry) where
   pub literal-star : contains star mk ≡ true → Finds m 14 (literal mk es) NotFound

@@ -40,13 +40,12 @@ joinedKeys a b = record { dot = a .dot || b .dot; other = a .other || b .other; 
 abbrev pub keysOf : List Entry → KeyMarks
 keysOf es = record { dot = anyKey isDotKey es; other = anyKey (λ k. not (isDotKey k)) es; subpath = anyKey isSubpathKey es }
 
--- the best entry of a manifest so far, for a match key
+-- the key of the best entry of a manifest so far, for a match key
 pub record Chosen (m mk : List ℕ) (b : Best) (e : Entry) : Type 0 where
   pub found : b .found ≡ true
   pub ranked : b .rank ≡ rankOf (e .key)
   pub behind : List ℕ
   pub named : quoted (drop (b .key) m) ≡ got (e .key) behind
-  pub stands : Stands m 14 (b .value) (e .target)
   pub matched : patternMatch mk (e .key) ≡ some (take (b .len) (drop (b .start) mk))
 
 abbrev pub BestOf : (m mk : List ℕ) → Best → Option Entry → Type 0

@@ -17,8 +17,8 @@ ghost use mathlib.Core.Bool.{_&&_, _||_};
 ghost use Rattle.definition.specs.Settings.{textsOf, settingsOf};
 ghost use mathlib.Core.Option.{Option, none};
 ghost use Rattle.definition.specs.Json.{Json, obj, Members, got, quoted};
-ghost use Rattle.laws.specs.JsonAtLaws as values;
-ghost use Rattle.definition.specs.Exports.{isSubpathKey, isDotKey, anyKey, Entry, entries, better as betterOf, best as bestOf, literal, asSelected, selectedResolve, mainExport, mainResolve, PACKAGE-IMPORTS-EXPORTS-RESOLVE, PACKAGE-EXPORTS-RESOLVE};
+ghost use Rattle.package_json.specs.Values as values;
+ghost use Rattle.definition.specs.Exports.{isSubpathKey, isDotKey, anyKey, Entry, entries, get, better as betterOf, best as bestOf, literal, asSelected, selectedResolve, mainExport, mainResolve, PACKAGE-IMPORTS-EXPORTS-RESOLVE, PACKAGE-EXPORTS-RESOLVE};
 ghost use Rattle.targets.specs.Contexts.{contextOf};
 ghost use Rattle.targets.specs.Answers.{answerOf};
 ghost use Rattle.package_target.specs.Places.{Stands};
@@ -104,20 +104,19 @@ fn keys_of(m: &[u8], at: usize, work: &mut [u8]) -> KeyMarks
     keys
 }
 
-// The pattern key that comes first of those that match: the places of the key and of its value, and the part of the match key that is left over.
+// The pattern key that comes first of those that match: its place, and the part of the match key that is left over.
 struct Best {
     found: bool,
     key: usize,
-    value: usize,
     rank: Rank,
     start: usize,
     len: usize,
 }
 
-// The member whose key and value stand at two places, where it matches and comes before the best so far.
-fn better(m: &[u8], key: usize, value: usize, subpath: &[u8], best: Best, work: &mut [u8]) -> Best
+// The key at a place, where it matches and comes before the best so far.
+fn better(m: &[u8], key: usize, subpath: &[u8], best: Best, work: &mut [u8]) -> Best
     requires { ⌜ 1024 ≤ length (now work) ⌝ }
-    ensures { λ r. ⌜ ((o : Option Entry) (k s : List ℕ) (j : Json) → quoted (drop key (now (m .entry))) ≡ got k s → Stands (now (m .entry)) 14 value j → BestOf (now (m .entry)) (now (subpath .entry)) best o → BestOf (now (m .entry)) (now (subpath .entry)) r (betterOf (now (subpath .entry)) o (record { key = k; target = j }))) ⌝ }
+    ensures { λ r. ⌜ ((o : Option Entry) (k s : List ℕ) (j : Json) → quoted (drop key (now (m .entry))) ≡ got k s → BestOf (now (m .entry)) (now (subpath .entry)) best o → BestOf (now (m .entry)) (now (subpath .entry)) r (betterOf (now (subpath .entry)) o (record { key = k; target = j }))) ⌝ }
 {
     let t = package_json::read_text(m, key, work);
     let name = package_json::text_at(m, work, t);
@@ -134,7 +133,6 @@ fn better(m: &[u8], key: usize, value: usize, subpath: &[u8], best: Best, work: 
                 Order::Greater => Best {
                     found: true,
                     key,
-                    value,
                     rank,
                     start,
                     len,
@@ -152,7 +150,6 @@ fn best_key(m: &[u8], at: usize, subpath: &[u8], work: &mut [u8]) -> Best
     let mut best = Best {
         found: false,
         key: 0,
-        value: 0,
         rank: Rank {
             base: 0,
             starred: false,
@@ -166,14 +163,22 @@ fn best_key(m: &[u8], at: usize, subpath: &[u8], work: &mut [u8]) -> Best
         match cursor {
             Cursor::Nothing => return best,
             Cursor::At(i) => {
-                let value = package_target::value_at(m, i);
-                best = better(m, i, value, subpath, best, work);
-                cursor = package_json::next_element(m, value);
+                best = better(m, i, subpath, best, work);
+                cursor = package_json::next_member(m, i);
                 left -= 1;
             }
         }
     }
     best
+}
+
+// The value that the key at a place has in the object at another: that of its last member.
+fn value_of(m: &[u8], at: usize, key: usize, work: &mut [u8]) -> Cursor
+    requires { ⌜ 1024 ≤ length (now work) ⌝ }
+    ensures { λ r. ⌜ ((ms : Members) (k s : List ℕ) → Stands (now (m .entry)) 15 at (obj ms) → quoted (drop key (now (m .entry))) ≡ got k s → Finds (now (m .entry)) 14 (get k (entries ms)) r) ⌝ }
+{
+    let t = package_json::read_text(m, key, work);
+    package_json::get(m, at, package_json::text_at(m, work, t))
 }
 
 // The key that a failure names.
@@ -240,8 +245,11 @@ fn pattern_resolve(
     if !found {
         return unresolved(c, Outcome::Nothing);
     }
-    let value = best.value;
     let key = best.key;
+    let found_value = value_of(m, at, key, work);
+    let Cursor::At(value) = found_value else {
+        return unresolved(c, Outcome::Nothing);
+    };
     let start = best.start;
     let len = best.len;
     let rank = best.rank;

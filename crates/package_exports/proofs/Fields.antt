@@ -12,7 +12,8 @@ use Rattle.definition.specs.Path.{dirs}
 use Rattle.definition.specs.Specifier.{dotSubpath, stripPackageName}
 use Rattle.definition.specs.Json.{Json}
 use Rattle.definition.specs.JsonAt.{getAt}
-use Rattle.laws.specs.JsonAtLaws.{Stands, Finds, finds, finds-none, get-here}
+use Rattle.package_json.specs.Values.{Stands, Finds, finds, finds-none}
+use Rattle.package_json.proofs.Values.{get-here}
 use Rattle.definition.specs.Exports as exports
 use Rattle.definition.specs.Exports.{PACKAGE-EXPORTS-RESOLVE}
 use Rattle.definition.specs.Ask.{Listing, Step, go, _>>=_}

@@ -12,7 +12,7 @@ ghost use Prim.Native.Nat.{_≤_};
 ghost use lib.ListN.{length, drop};
 ghost use Rattle.definition.specs.Path.{manifestOf};
 ghost use Rattle.definition.specs.Json.{Json};
-ghost use Rattle.laws.specs.JsonAtLaws.{Stands, Finds};
+ghost use Rattle.package_json.specs.Values.{Stands, Finds};
 ghost use Rattle.definition.specs.Settings.{textsOf, settingsOf};
 ghost use Rattle.definition.specs.Manifest.{firstField, manifestView};
 ghost use Rattle.definition.specs.Called.{seenBy};

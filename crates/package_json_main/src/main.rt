@@ -1,5 +1,5 @@
 // Runs the rows of its standard input through `package_json`, and prints for each group how many are as expected: RFC 8259's own examples,
-// texts to accept (0) or refuse (7, 40, 41), texts at the limits and one past them, and the readers.
+// texts to accept (0) or refuse (7, 40), texts at the limits and one past them, and the readers.
 //
 // A row is a line of fields with a tab between them, of which the first says what is asked; a line that begins with "#" names a group. In a
 // text, "~" and two hex digits stand for a byte.

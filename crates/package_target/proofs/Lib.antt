@@ -1,2 +1,4 @@
 pub mod Places
+pub mod Conditions
+pub mod Gathering
 pub mod Loops

@@ -1,26 +1,31 @@
 -- The loops over an array and over an object, against `PACKAGE_TARGET_RESOLVE`.
-use mathlib.Core.Path.{_≡_, refl, sym, _∙_, ap}
-use mathlib.Core.Bool.{Bool, true, false, _||_}
-use mathlib.Core.List.{List, []}
-use mathlib.Core.Option.{some}
-use Prim.Native.Nat.{ℕ, suc, _+_, _-_, _<_, _≤_}
+use mathlib.Core.Path.{_≡_, refl, sym, _∙_, ap, subst}
+use mathlib.Core.Bool.{Bool, true, false, not, _||_, true≢false}
+use mathlib.Core.List.{List, [], _∷_}
+use mathlib.Core.Option.{Option, none, some}
+use Prim.Native.Nat.{ℕ, suc, _-_, _<_, _≤_}
 use native.Mathlib.Omega.{arith}
-use lib.ListN.{length, drop, take, getD, drop-of-length-le}
-use lib.Seq.{drop-cons}
-use native.Mathlib.Numerals.{add-one}
+use borrow.Author.Tests.{ltb-true, lt-ltb}
+use lib.Dec.{ltb}
+use lib.ListN.{length, drop, take, getD, set}
+use lib.Seq.{getD-set-same, getD-set-other}
 use Rattle.definition.specs.Text.{text as bytes, if_then_else_, equal, isOneOf}
-use Rattle.definition.specs.Json.{Json, scalar, str, arr, obj, Elements, Members, member, got, quoted}
-use Rattle.definition.specs.JsonAt.{firstElement, firstMember, nextElement, memberValue}
+use Rattle.laws.specs.TextLaws.{equal-true, equal-refl}
+use Rattle.definition.specs.Json.{Json, scalar, str, arr, obj, Elements, Members, member, got, quoted, lastOr, settled, settledMembers}
+use Rattle.laws.specs.SettledLaws.{lastFrom, from-some, trimmed, whole-trimmed, memberIf, next-member}
+use Rattle.definition.specs.JsonAt.{firstElement, firstMember, nextElement, nextMember}
 use Rattle.definition.specs.Settings.{textsOf}
 use Rattle.definition.specs.Specifier.{parseSpecifier}
 use Rattle.definition.specs.Exports as exports
 use Rattle.definition.specs.Exports.{Request, nothing, orGoOn, orNext, isEmpty, pathNotExported, orDot, stringTarget, PACKAGE-TARGET-RESOLVE, eachCondition, eachElement}
-use Rattle.package_target.specs.Places.{Stands, MembersAt, MembersFrom, ElementsFrom, kindOf}
+use Rattle.package_target.specs.Places.{Written, Stands, MembersAt, MembersFrom, ElementsFrom, kindOf}
+use Rattle.package_target.specs.Conditions.{conditionOf, StandsIf, LastValues, Turn}
+use Rattle.package_target.proofs.Conditions.{condition-holds, same-condition, put-size}
 use Rattle.package_json.specs.declared.Cursor.{Cursor}
 use Rattle.package_json.specs.declared.Cursor.the-variants.{At, Nothing as Done}
 use Rattle.package_json.specs.Cursors.{placed}
 use Rattle.package_target.specs.declared.Kind.the-variants.{Scalar, String, Array, Object}
-use Rattle.package_target.proofs.Places.{One, one, none-left, OneElement, one-of, no-element-left, array-depth, object-depth, first-elements, first-members, element-is, value-stands, behind-value, equal-sym}
+use Rattle.package_target.proofs.Places.{One, one, none-left, OneElement, one-of, no-element-left, array-depth, object-depth, object-at, first-elements, first-members, element-is, next-member-is, stands, written-inside, equal-sym}
 use Rattle.targets.specs.declared.Outcome.{Outcome}
 use Rattle.targets.specs.declared.Outcome.the-variants.{Found, Nothing, Empty, InvalidTarget, NotExportedMatch, NotExported, ConfigMixed, ConfigDirectory, OverLong}
 use Rattle.targets.specs.declared.Context.{Context}
@@ -29,11 +34,8 @@ use Rattle.targets.specs.Contexts.{contextOf}
 use Rattle.targets.specs.Answers.{outcomeIn, answerOf}
 use Rattle.package_target.specs.Answers.{isSome, isNothing, isFinal, isPassed}
 
-none : {P : Type 0} → ⊥ → P
-none z = absurd z
-
 clash : {P : Type 0} → true ≡ false → P
-clash e = none (let z : _≡_ {A = ℕ} 0 1 = cc in omega arith)
+clash e = absurd (let z : _≡_ {A = ℕ} 0 1 = cc in omega arith)
 
 pick-true : {A : Type 0} (b : Bool) (y z : A) → b ≡ true → (if b then y else z) ≡ y
 pick-true b y z e = rw e
@@ -49,21 +51,21 @@ emptyArray q c = record { context = c; outcome = pathNotExported (orDot (q .matc
 
 -- the kind of a value
 pub is-text : (j : Json) → String ≡ kindOf j → (s : List ℕ) × (j ≡ str s)
-is-text scalar e = none (let z : _≡_ {A = ℕ} 0 1 = cc in omega arith)
+is-text scalar e = absurd (let z : _≡_ {A = ℕ} 0 1 = cc in omega arith)
 is-text (str s) e = (s, refl)
-is-text (arr js) e = none (let z : _≡_ {A = ℕ} 0 1 = cc in omega arith)
-is-text (obj ms) e = none (let z : _≡_ {A = ℕ} 0 1 = cc in omega arith)
+is-text (arr js) e = absurd (let z : _≡_ {A = ℕ} 0 1 = cc in omega arith)
+is-text (obj ms) e = absurd (let z : _≡_ {A = ℕ} 0 1 = cc in omega arith)
 
 pub is-array : (j : Json) → Array ≡ kindOf j → (js : Elements) × (j ≡ arr js)
-is-array scalar e = none (let z : _≡_ {A = ℕ} 0 1 = cc in omega arith)
-is-array (str s) e = none (let z : _≡_ {A = ℕ} 0 1 = cc in omega arith)
+is-array scalar e = absurd (let z : _≡_ {A = ℕ} 0 1 = cc in omega arith)
+is-array (str s) e = absurd (let z : _≡_ {A = ℕ} 0 1 = cc in omega arith)
 is-array (arr js) e = (js, refl)
-is-array (obj ms) e = none (let z : _≡_ {A = ℕ} 0 1 = cc in omega arith)
+is-array (obj ms) e = absurd (let z : _≡_ {A = ℕ} 0 1 = cc in omega arith)
 
 pub is-object : (j : Json) → Object ≡ kindOf j → (ms : Members) × (j ≡ obj ms)
-is-object scalar e = none (let z : _≡_ {A = ℕ} 0 1 = cc in omega arith)
-is-object (str s) e = none (let z : _≡_ {A = ℕ} 0 1 = cc in omega arith)
-is-object (arr js) e = none (let z : _≡_ {A = ℕ} 0 1 = cc in omega arith)
+is-object scalar e = absurd (let z : _≡_ {A = ℕ} 0 1 = cc in omega arith)
+is-object (str s) e = absurd (let z : _≡_ {A = ℕ} 0 1 = cc in omega arith)
+is-object (arr js) e = absurd (let z : _≡_ {A = ℕ} 0 1 = cc in omega arith)
 is-object (obj ms) e = (ms, refl)
 
 -- one level deeper
@@ -155,7 +157,7 @@ module _ {m : List ℕ} {d : ℕ} {q : Request} {n : ℕ} {cursor : Cursor} {c :
     where
       go : (k : Cursor) → cursor ≡ k → x ≡ nothingYet c
       go Done e = array-done e
-      go (At i) e = none (no-element-left (rw e at (g .from)) (let z : n ≡ 0 = omega arith in z))
+      go (At i) e = absurd (no-element-left (rw e at (g .from)) (let z : n ≡ 0 = omega arith in z))
 
   module _ {i : ℕ} (e : cursor ≡ At i) (next : Cursor) (f : placed m next ≡ nextElement (drop i m))
       (path : List ℕ) (R : Answer) (r : (j : Json) → Stands m d i j → answerOf m q path R ≡ PACKAGE-TARGET-RESOLVE q j c) where
@@ -175,15 +177,29 @@ module _ {m : List ℕ} {d : ℕ} {q : Request} {n : ℕ} {cursor : Cursor} {c :
     pub array-on : isPassed (R .outcome) next ≡ true → ArrayLeft m d q (n - 1) next (contextOf m (R .context)) x
     array-on p = record { others = this .others; from = both-this .1; same = step ∙ next-on q (contextOf m (R .context)) (take (R .len) path) (R .outcome) (this .others) next (λ c. eachElement q (this .others) c) m d (n - 1) (both-this .1) p }
 
--- objects: the members that are left
-pub record ObjectLeft (m : List ℕ) (d : ℕ) (q : Request) (n : ℕ) (cursor : Cursor) (c : exports.Context) (x : exports.Resolved) : Type 0 where
+-- objects: the members that are left, of which those with a name that was seen have had their turn; and where the values of the others stand
+unfoldable pub due : List (List ℕ) → List ℕ → Members → Option Json
+due seen k ms = if isOneOf seen k then none else lastFrom k none ms
+
+pub record ObjectLeft (m : List ℕ) (d : ℕ) (q : Request) (values : List ℕ) (n : ℕ) (cursor : Cursor) (c : exports.Context) (x : exports.Resolved) : Type 0 where
   pub others : Members
   pub from : MembersFrom m d n others cursor
-  pub same : x ≡ eachCondition q others c
+  pub seen : List (List ℕ)
+  pub same : x ≡ eachCondition q (trimmed seen (settledMembers others)) c
+  pub size : length values ≡ 256
+  pub turns : (k : List ℕ) → conditionOf (q .conditions) k < 256 → StandsIf m d (getD values (conditionOf (q .conditions) k) 0) (due seen k others)
 
-pub object-begin : (m : List ℕ) (d : ℕ) (q : Request) (c : exports.Context) (ms : Members) (cursor : Cursor) → MembersFrom m d 128 ms cursor → ObjectLeft m d q 128 cursor c (PACKAGE-TARGET-RESOLVE q (obj ms) c)
-unfolding PACKAGE-TARGET-RESOLVE
-object-begin m d q c ms cursor h = record { others = ms; from = h; same = refl }
+pub object-begin : (m : List ℕ) (d : ℕ) (q : Request) (c : exports.Context) (os : Members) (values : List ℕ) (cursor : Cursor) → MembersFrom m d 128 os cursor
+    → LastValues m d (q .conditions) values os → ObjectLeft m d q values 128 cursor c (PACKAGE-TARGET-RESOLVE q (obj (settledMembers os)) c)
+unfolding PACKAGE-TARGET-RESOLVE due isOneOf
+object-begin m d q c os values cursor h v = record {
+  others = os;
+  from = h;
+  seen = [];
+  same = ap (λ ms. eachCondition q ms c) (sym (whole-trimmed (settledMembers os)));
+  size = v .size;
+  turns = λ k a. v .last k a;
+}
 
 pub go-stop : (q : Request) (c : exports.Context) (t : List ℕ) (o : Outcome) (k : exports.Context → exports.Resolved) → isNothing o ≡ false
     → orGoOn (record { context = c; outcome = outcomeIn (q .packageURL) (q .key) (q .matched) o t }) k ≡ record { context = c; outcome = outcomeIn (q .packageURL) (q .key) (q .matched) o t }
@@ -210,51 +226,146 @@ go-on q c t NotExported k e = clash (sym e)
 go-on q c t ConfigMixed k e = clash (sym e)
 go-on q c t ConfigDirectory k e = clash (sym e)
 
-module _ {m : List ℕ} {d : ℕ} {q : Request} {n : ℕ} {cursor : Cursor} {c : exports.Context} {x : exports.Resolved} (g : ObjectLeft m d q n cursor c x) where
+-- what one member does to the values that are due: its own name has had its turn, the others wait as before
+due-own : (seen : List (List ℕ)) (k : List ℕ) (ms : Members) → due (k ∷ seen) k ms ≡ none
+unfolding due isOneOf
+due-own seen k ms = rw (equal-refl k)
+
+due-other : (seen : List (List ℕ)) (n k : List ℕ) (j : Json) (ms : Members) → equal n k ≡ false → due seen k (member n j ms) ≡ due (n ∷ seen) k ms
+unfolding due isOneOf lastFrom
+due-other seen n k j ms e = rw (e, equal-sym k n ∙ e)
+
+due-now : (seen : List (List ℕ)) (k : List ℕ) (j : Json) (ms : Members) → due seen k (member k j ms) ≡ (if isOneOf seen k then none else some (lastOr k j ms))
+unfolding due lastFrom
+due-now seen k j ms = rw (equal-refl k, from-some k j ms)
+
+module _ {m : List ℕ} {d : ℕ} {q : Request} {values : List ℕ} {n : ℕ} {cursor : Cursor} {c : exports.Context} {x : exports.Resolved} (g : ObjectLeft m d q values n cursor c x) where
   pub object-done : cursor ≡ Done → x ≡ nothingYet c
-  unfolding eachCondition
-  object-done e = g .same ∙ ap (λ ms. eachCondition q ms c) (rw e at (g .from))
+  unfolding eachCondition settledMembers trimmed
+  object-done e = g .same ∙ ap (λ ms. eachCondition q (trimmed (g .seen) (settledMembers ms)) c) (rw e at (g .from))
 
   pub object-over : n ≤ 0 → x ≡ nothingYet c
   object-over l = go cursor refl
     where
       go : (k : Cursor) → cursor ≡ k → x ≡ nothingYet c
       go Done e = object-done e
-      go (At i) e = none (none-left (rw e at (g .from)) (let z : n ≡ 0 = omega arith in z))
+      go (At i) e = absurd (none-left (rw e at (g .from)) (let z : n ≡ 0 = omega arith in z))
 
-  module _ {i : ℕ} (e : cursor ≡ At i) (v : ℕ) (f : (s : List ℕ) → memberValue (drop i m) ≡ some s → drop v m ≡ s)
-      (settings : List ℕ) (s : q .conditions ≡ textsOf settings 0) (b : Bool) (p : (k s : List ℕ) → quoted (drop i m) ≡ got k s → b ≡ (equal k (bytes "default") || isOneOf (textsOf settings 0) k)) where
+  module _ {i : ℕ} (e : cursor ≡ At i) (settings : List ℕ) (s : q .conditions ≡ textsOf settings 0) (few : length (textsOf settings 0) < 256) (left : List ℕ) (v : ℕ)
+      (t : (k s : List ℕ) → quoted (drop i m) ≡ got k s → Turn (length m) (conditionOf (textsOf settings 0) k) values left v) where
     that : One m d n i (g .others)
     that = one (rw e at (g .from))
 
-    that-here : MembersAt m d n i (member (that .name) (that .val) (that .others))
+    abbrev key : List ℕ
+    key = that .name
+
+    abbrev index : ℕ
+    index = conditionOf (q .conditions) key
+
+    abbrev rest : Members
+    rest = trimmed (key ∷ g .seen) (settledMembers (that .others))
+
+    that-here : MembersAt m d n i (member key (that .val) (that .others))
     that-here = rw (that .is) at (rw e at (g .from))
 
-    next-that : (next : Cursor) → placed m next ≡ nextElement (drop v m) → MembersFrom m d (n - 1) (that .others) next
-    next-that = behind-value m i v f d n (that .name) (that .val) (that .others) that-here
+    next-that : (next : Cursor) → placed m next ≡ nextMember (drop i m) → MembersFrom m d (n - 1) (that .others) next
+    next-that next f = next-member-is m i next f d n key (that .val) (that .others) that-here
 
-    holds-that : b ≡ (equal (that .name) (bytes "default") || isOneOf (q .conditions) (that .name))
-    holds-that =
-        p (that .name) (that .behind) (that .quote) ∙ ap (λ l. equal (that .name) (bytes "default") || isOneOf l (that .name)) (sym s)
+    turn : Turn (length m) index values left v
+    turn = rw (sym s) at (t key (that .behind) (that .quote))
 
-    stepped : x ≡ (if b then orGoOn (PACKAGE-TARGET-RESOLVE q (that .val) c) (λ d. eachCondition q (that .others) d) else eachCondition q (that .others) c)
-    unfolding eachCondition
-    stepped = g .same ∙ ap (λ ms. eachCondition q ms c) (that .is) ∙ ap (λ y. if y then orGoOn (PACKAGE-TARGET-RESOLVE q (that .val) c) (λ d. eachCondition q (that .others) d) else eachCondition q (that .others) c) (sym holds-that)
+    -- the member's value, where it is due
+    abbrev now-due : Option Json
+    now-due = if ltb index 256 then (if isOneOf (g .seen) key then none else some (lastOr key (that .val) (that .others))) else none
 
-    pub object-skip : b ≡ false → (next : Cursor) → placed m next ≡ nextElement (drop v m) → ObjectLeft m d q (n - 1) next c x
-    object-skip h next l = record { others = that .others; from = next-that next l; same = stepped ∙ pick-false b (orGoOn (PACKAGE-TARGET-RESOLVE q (that .val) c) (λ d. eachCondition q (that .others) d)) (eachCondition q (that .others) c) h }
+    taken-is : StandsIf m d v now-due
+    taken-is = go (ltb index 256) refl
+      where
+        due-is : due (g .seen) key (g .others) ≡ (if isOneOf (g .seen) key then none else some (lastOr key (that .val) (that .others)))
+        due-is = ap (due (g .seen) key) (that .is) ∙ due-now (g .seen) key (that .val) (that .others)
 
-    module _ (h : b ≡ true) (path : List ℕ) (R : Answer) (r : (j : Json) → Stands m d v j → answerOf m q path R ≡ PACKAGE-TARGET-RESOLVE q j c) where
-      taken : x ≡ orGoOn (answerOf m q path R) (λ d. eachCondition q (that .others) d)
-      taken =
-          stepped ∙ pick-true b (orGoOn (PACKAGE-TARGET-RESOLVE q (that .val) c) (λ d. eachCondition q (that .others) d)) (eachCondition q (that .others) c) h
-          ∙ ap (λ y. orGoOn y (λ d. eachCondition q (that .others) d)) (sym (r (that .val) (value-stands m i v f d n (that .name) (that .val) (that .others) that-here)))
+        go : (b : Bool) → ltb index 256 ≡ b → StandsIf m d v (if b then (if isOneOf (g .seen) key then none else some (lastOr key (that .val) (that .others))) else none)
+        go true h =
+            let z : v ≡ getD values index 0 = turn .taken ∙ pick-true (ltb index 256) _ _ h in
+            subst (λ p. StandsIf m d p (if isOneOf (g .seen) key then none else some (lastOr key (that .val) (that .others)))) (sym z) (rw (sym due-is) (g .turns key (ltb-true index 256 h)))
+        go false h = let z : v ≡ length m = turn .taken ∙ pick-false (ltb index 256) _ _ h in omega arith
+
+    abbrev goes : Option Json → exports.Resolved
+    goes none = eachCondition q rest c
+    goes (some j) = orGoOn (PACKAGE-TARGET-RESOLVE q (settled j) c) (λ d. eachCondition q rest d)
+
+    stepped : x ≡ goes now-due
+    unfolding eachCondition memberIf
+    stepped =
+        g .same ∙ ap (λ ms. eachCondition q (trimmed (g .seen) (settledMembers ms)) c) (that .is)
+        ∙ ap (λ ms. eachCondition q ms c) (next-member (g .seen) key (that .val) (that .others))
+        ∙ go (isOneOf (g .seen) key) (ltb index 256) (condition-holds (q .conditions) key (rw s few))
+      where
+        go : (u b : Bool) → equal key (bytes "default") || isOneOf (q .conditions) key ≡ b
+            → eachCondition q (memberIf (not u) key (settled (lastOr key (that .val) (that .others))) rest) c ≡ goes (if b then (if u then none else some (lastOr key (that .val) (that .others))) else none)
+        go true true h = refl
+        go true false h = refl
+        go false true h = rw h refl
+        go false false h = rw h refl
+
+    -- the table behind the member
+    left-set : index < 256 → left ≡ set values index (length m)
+    left-set l = turn .others ∙ pick-true (ltb index 256) _ _ (lt-ltb index 256 l)
+
+    left-size : length left ≡ 256
+    left-size = put-size values left index (length m) (turn .others) (g .size)
+
+    left-turns : (k : List ℕ) → conditionOf (q .conditions) k < 256 → StandsIf m d (getD left (conditionOf (q .conditions) k) 0) (due (key ∷ g .seen) k (that .others))
+    left-turns k a = by (equal key k) refl
+      where
+        own : equal key k ≡ true → StandsIf m d (getD left (conditionOf (q .conditions) k) 0) (due (key ∷ g .seen) k (that .others))
+        own f =
+            let p : key ≡ k = equal-true key k f in
+            let l : index < 256 = rw p a in
+            let z : getD left index 0 ≡ length m = ap (λ y. getD y index 0) (left-set l) ∙ getD-set-same values index (length m) 0 (omega (arith, g .size)) in
+            let none-due : StandsIf m d (length m) none = omega arith in
+            subst (λ y. StandsIf m d (getD left (conditionOf (q .conditions) y) 0) (due (key ∷ g .seen) y (that .others))) p (rw (due-own (g .seen) key (that .others), z) none-due)
+
+        differ : equal key k ≡ false → conditionOf (q .conditions) k ≡ index → ⊥
+        differ f z = true≢false (sym (equal-refl k) ∙ ap (λ y. equal y k) (same-condition (q .conditions) k key a z) ∙ f)
+
+        kept : equal key k ≡ false → (b : Bool) → getD (if b then set values index (length m) else values) (conditionOf (q .conditions) k) 0 ≡ getD values (conditionOf (q .conditions) k) 0
+        kept f true = getD-set-other values index (conditionOf (q .conditions) k) (length m) 0 (differ f)
+        kept f false = refl
+
+        other : equal key k ≡ false → StandsIf m d (getD left (conditionOf (q .conditions) k) 0) (due (key ∷ g .seen) k (that .others))
+        other f =
+            let z : getD left (conditionOf (q .conditions) k) 0 ≡ getD values (conditionOf (q .conditions) k) 0 = ap (λ y. getD y (conditionOf (q .conditions) k) 0) (turn .others) ∙ kept f (ltb index 256) in
+            let o : due (g .seen) k (g .others) ≡ due (key ∷ g .seen) k (that .others) = ap (due (g .seen) k) (that .is) ∙ due-other (g .seen) key k (that .val) (that .others) f in
+            rw (z, sym o) (g .turns k a)
+
+        by : (u : Bool) → equal key k ≡ u → StandsIf m d (getD left (conditionOf (q .conditions) k) 0) (due (key ∷ g .seen) k (that .others))
+        by true f = own f
+        by false f = other f
+
+    behind : (c′ : exports.Context) (next : Cursor) → placed m next ≡ nextMember (drop i m) → x ≡ eachCondition q rest c′ → ObjectLeft m d q left (n - 1) next c′ x
+    behind c′ next f y = record { others = that .others; from = next-that next f; seen = key ∷ g .seen; same = y; size = left-size; turns = left-turns }
+
+    pub object-skip : length m ≤ v → (next : Cursor) → placed m next ≡ nextMember (drop i m) → ObjectLeft m d q left (n - 1) next c x
+    object-skip l next f = behind c next f (stepped ∙ go now-due taken-is)
+      where
+        go : (o : Option Json) → StandsIf m d v o → goes o ≡ eachCondition q rest c
+        go none h = refl
+        go (some j) h = absurd (written-inside m d v j h l)
+
+    module _ (l : v < length m) (path : List ℕ) (R : Answer) (r : (j : Json) → Stands m d v j → answerOf m q path R ≡ PACKAGE-TARGET-RESOLVE q j c) where
+      resolved : x ≡ orGoOn (answerOf m q path R) (λ d. eachCondition q rest d)
+      resolved = stepped ∙ go now-due taken-is
+        where
+          go : (o : Option Json) → StandsIf m d v o → goes o ≡ orGoOn (answerOf m q path R) (λ d. eachCondition q rest d)
+          go none h = absurd (let z : ⊥ = omega arith in z)
+          go (some j) h = ap (λ y. orGoOn y (λ d. eachCondition q rest d)) (sym (r (settled j) (stands h)))
 
       pub object-stop : isNothing (R .outcome) ≡ false → x ≡ answerOf m q path R
-      object-stop u = taken ∙ go-stop q (contextOf m (R .context)) (take (R .len) path) (R .outcome) (λ d. eachCondition q (that .others) d) u
+      object-stop u = resolved ∙ go-stop q (contextOf m (R .context)) (take (R .len) path) (R .outcome) (λ d. eachCondition q rest d) u
 
-      pub object-on : isNothing (R .outcome) ≡ true → (next : Cursor) → placed m next ≡ nextElement (drop v m) → ObjectLeft m d q (n - 1) next (contextOf m (R .context)) x
-      object-on u next l = record { others = that .others; from = next-that next l; same = taken ∙ go-on q (contextOf m (R .context)) (take (R .len) path) (R .outcome) (λ d. eachCondition q (that .others) d) u }
+      pub object-on : isNothing (R .outcome) ≡ true → (next : Cursor) → placed m next ≡ nextMember (drop i m) → ObjectLeft m d q left (n - 1) next (contextOf m (R .context)) x
+      object-on u next f = behind (contextOf m (R .context)) next f (resolved ∙ go-on q (contextOf m (R .context)) (take (R .len) path) (R .outcome) (λ d. eachCondition q rest d) u)
 
 -- brackets where no depth is left
 module _ {m : List ℕ} {d i : ℕ} {j : Json} (h : Stands m d i j) where
@@ -284,11 +395,14 @@ module _ (m : List ℕ) (d i : ℕ) (q : Request) (j : Json) (c : exports.Contex
         let s = array-begin m (d - 1) q c (k .0) cursor (array-first (k .0) (k .1) f) n in
         record { others = s .others; from = s .from; same = ap (λ j. PACKAGE-TARGET-RESOLVE q j c) (k .1) ∙ s .same }
 
-    pub object-start : Object ≡ kindOf j → placed m cursor ≡ firstMember (drop i m) → ObjectLeft m (d - 1) q 128 cursor c (PACKAGE-TARGET-RESOLVE q j c)
-    object-start e f =
+    pub object-start : Object ≡ kindOf j → placed m cursor ≡ firstMember (drop i m) → (values : List ℕ)
+        → ((d : ℕ) (ms : Members) → Written m (suc d) i (obj ms) → LastValues m d (q .conditions) values ms)
+        → ObjectLeft m (d - 1) q values 128 cursor c (PACKAGE-TARGET-RESOLVE q j c)
+    object-start e f values v =
         let k = is-object j e in
-        let s = object-begin m (d - 1) q c (k .0) cursor (first-members m i cursor f (d - 1) (k .0) (deeper m d i (obj (k .0)) z (rw (k .1) at h))) in
-        record { others = s .others; from = s .from; same = ap (λ j. PACKAGE-TARGET-RESOLVE q j c) (k .1) ∙ s .same }
+        let o = object-at (deeper m d i (obj (k .0)) z (rw (k .1) at h)) in
+        let b = object-begin m (d - 1) q c (o .members) values cursor (first-members m i cursor f (d - 1) (o .members) (o .there)) (v (d - 1) (o .members) (o .there)) in
+        rw (k .1, sym (o .means)) b
 
 -- which outcomes are passed
 pub passed-nothing : (o : Outcome) (c : Cursor) → isNothing o ≡ true → true ≡ isPassed o c
@@ -323,23 +437,3 @@ passed-other NotExported c e f = refl
 passed-other ConfigMixed c e f = refl
 passed-other ConfigDirectory c e f = refl
 passed-other OverLong c e f = clash f
-
--- conditions
-pub holds-first : (k : List ℕ) (ts : List (List ℕ)) → equal k (bytes "default") ≡ true → true ≡ (equal k (bytes "default") || isOneOf ts k)
-holds-first k ts e = rw e
-
-module _ (k : List ℕ) (ts : List (List ℕ)) (i : ℕ) where
-  pub one-here : i < length ts → equal k (getD ts i []) ≡ true → isOneOf (drop i ts) k ≡ true
-  unfolding isOneOf
-  one-here l e = rw (drop-cons ts i [] l) (rw (equal-sym (getD ts i []) k ∙ e))
-
-  pub one-not : i < length ts → equal k (getD ts i []) ≡ false → isOneOf (drop i ts) k ≡ isOneOf (drop (i + 1) ts) k
-  unfolding isOneOf
-  one-not l e = rw (drop-cons ts i [] l, add-one i) (rw (equal-sym (getD ts i []) k ∙ e))
-
-  pub one-end : length ts ≤ i → isOneOf (drop i ts) k ≡ false
-  unfolding isOneOf
-  one-end l = rw (drop-of-length-le ts l)
-
-pub holds-by : (k : List ℕ) (ts : List (List ℕ)) (b : Bool) → equal k (bytes "default") ≡ false → isOneOf ts k ≡ b → b ≡ (equal k (bytes "default") || isOneOf ts k)
-holds-by k ts b e f = rw (e, f)

@@ -8,19 +8,23 @@ use targets::Outcome;
 ghost use mathlib.Core.Path.{_≡_};
 ghost use mathlib.Core.List.{List};
 ghost use mathlib.Core.Option.{some};
-ghost use Prim.Native.Nat.{ℕ, _≤_};
-ghost use lib.ListN.{length, drop};
-ghost use mathlib.Core.Bool.{_||_};
-ghost use Rattle.definition.specs.Text.{text, equal, isOneOf};
+ghost use Prim.Native.Nat.{ℕ, suc, _≤_, _<_};
+ghost use lib.Dec.{ltb};
+ghost use lib.ListN.{length, drop, set, replicate};
+ghost use Rattle.definition.specs.Text.{if_then_else_};
 ghost use Rattle.definition.specs.Settings.{textsOf};
-ghost use Rattle.definition.specs.Json.{Json, str, got, quoted};
+ghost use Rattle.definition.specs.Json.{Json, str, obj, Members, got, quoted};
 ghost use Rattle.definition.specs.JsonAt.{memberValue};
 ghost use Rattle.definition.specs.Exports.{Request, stringTarget, PACKAGE-TARGET-RESOLVE};
 ghost use Rattle.definition.specs.Specifier.{parseSpecifier};
 ghost use Rattle.targets.specs.Contexts.{contextOf};
 ghost use Rattle.targets.specs.Answers.{answerOf, Asked};
-ghost use Rattle.package_target.specs.Places.{Stands, kindOf};
+ghost use Rattle.package_target.specs.Places.{Written, Stands, kindOf};
+ghost use Rattle.package_target.specs.Conditions.{conditionOf, LastValues, Turn};
 ghost use Rattle.package_target.specs.Answers.{Requested, isNothing, isFinal, isSome, isPassed};
+
+// As many conditions as a count of one byte and "default" can name.
+const CONDITIONS: usize = 256;
 
 // The kinds of values.
 pub enum Kind {
@@ -80,23 +84,90 @@ fn string_target(
     )
 }
 
-// Whether the condition holds that the member at a place names.
-fn condition_holds(m: &[u8], at: usize, settings: &[u8]) -> bool
-    ensures { λ r. ⌜ ((k s : List ℕ) → quoted (drop at (now (m .entry))) ≡ got k s → r ≡ (equal k (text "default") || isOneOf (textsOf (now (settings .entry)) 0) k)) ⌝ }
+fn wide(x: u8) -> usize
+    ensures { λ r. ⌜ (r ≡ x) × (r < 256) ⌝ }
 {
-    if package_json::name_is(m, at, b"default") {
-        return true;
+    x as usize
+}
+
+// How many conditions the settings have: no more than their count says, which is one byte.
+fn condition_count(settings: &[u8]) -> usize
+    ensures { λ r. ⌜ (r ≡ length (textsOf (now (settings .entry)) 0)) × (r < 256) ⌝ }
+{
+    if settings.len() == 0 {
+        return 0;
     }
+    let counted = wide(settings[0]);
     let n = settings::count(settings, settings::Kind::Conditions);
+    if n < counted {
+        return n;
+    }
+    counted
+}
+
+// Which condition the member at a place names: 0 is "default", 1 + i the i-th of the settings, CONDITIONS none of them.
+fn condition_at(m: &[u8], at: usize, settings: &[u8]) -> usize
+    ensures { λ r. ⌜ length (textsOf (now (settings .entry)) 0) < 256 ⌝ }
+    ensures { λ r. ⌜ ((k s : List ℕ) → quoted (drop at (now (m .entry))) ≡ got k s → r ≡ conditionOf (textsOf (now (settings .entry)) 0) k) ⌝ }
+{
+    let n = condition_count(settings);
+    if package_json::name_is(m, at, b"default") {
+        return 0;
+    }
     let mut i: usize = 0;
     while i < n {
         let condition = settings::text(settings, settings::Kind::Conditions, i);
         if package_json::name_is(m, at, condition) {
-            return true;
+            return 1 + i;
         }
         i += 1;
     }
-    false
+    CONDITIONS
+}
+
+// A condition's value; a number that is none's changes nothing.
+fn put_value(values: &mut [usize; 256], k: usize, value: usize)
+    ensures { λ r. ⌜ now (values .exit) ≡ (if ltb k 256 then set (now (values .entry)) k value else now (values .entry)) ⌝ }
+{
+    if k < CONDITIONS {
+        values[k] = value;
+    }
+}
+
+// The last value of each condition that the object at a place names, by its place; the manifest's end where it names none.
+fn last_values(m: &[u8], at: usize, settings: &[u8], values: &mut [usize; 256])
+    requires { ⌜ now values ≡ replicate 256 (length (now m)) ⌝ }
+    ensures { λ r. ⌜ ((d : ℕ) (ms : Members) → Written (now (m .entry)) (suc d) at (obj ms) → LastValues (now (m .entry)) d (textsOf (now (settings .entry)) 0) (now (values .exit)) ms) ⌝ }
+{
+    let mut cursor = package_json::first_member(m, at);
+    let mut left: usize = 128;
+    while left > 0 {
+        match cursor {
+            Cursor::Nothing => return,
+            Cursor::At(i) => {
+                let value = value_at(m, i);
+                let k = condition_at(m, i, settings);
+                put_value(values, k, value);
+                cursor = package_json::next_element(m, value);
+                left -= 1;
+            }
+        }
+    }
+}
+
+// The value that the member at a place leads to, the manifest's end where it leads to none: each condition has one turn.
+fn take_turn(m: &[u8], at: usize, settings: &[u8], values: &mut [usize; 256]) -> usize
+    ensures { λ r. ⌜ length (textsOf (now (settings .entry)) 0) < 256 ⌝ }
+    ensures { λ r. ⌜ ((k s : List ℕ) → quoted (drop at (now (m .entry))) ≡ got k s → Turn (length (now (m .entry))) (conditionOf (textsOf (now (settings .entry)) 0) k) (now (values .entry)) (now (values .exit)) r) ⌝ }
+{
+    let k = condition_at(m, at, settings);
+    let end = m.len();
+    if k >= CONDITIONS {
+        return end;
+    }
+    let value = values[k];
+    values[k] = end;
+    value
 }
 
 // Nothing was found: the next condition, or the next part of the algorithm, is tried.
@@ -222,6 +293,9 @@ pub fn package_target_resolve(
             if depth == 0 {
                 return targets::without_path(c, Outcome::Nothing);
             }
+            let end = m.len();
+            let mut values = [end; 256];
+            last_values(m, at, settings, &mut values);
             let mut cursor = package_json::first_member(m, at);
             let mut context = c;
             let mut left: usize = 128;
@@ -229,9 +303,9 @@ pub fn package_target_resolve(
                 match cursor {
                     Cursor::Nothing => return targets::without_path(context, Outcome::Nothing),
                     Cursor::At(i) => {
-                        let value = value_at(m, i);
-                        let holds = condition_holds(m, i, settings);
-                        if holds {
+                        let next = package_json::next_member(m, i);
+                        let value = take_turn(m, i, settings, &mut values);
+                        if value < m.len() {
                             let r = package_target_resolve(
                                 m,
                                 value,
@@ -250,10 +324,10 @@ pub fn package_target_resolve(
                                 return r;
                             }
                             context = r.context;
-                            cursor = package_json::next_element(m, value);
+                            cursor = next;
                             left -= 1;
                         } else {
-                            cursor = package_json::next_element(m, value);
+                            cursor = next;
                             left -= 1;
                         }
                     }

@@ -1,6 +1,6 @@
 //! The lookup on the command line: packs a folder, writes settings, asks, and says the answer in words and in the program's form.
 
-use hannuvozh::{Listing, Lookup, Options, Refused, Settings, lookup_with, resolve_with};
+use hannuvozh::{Answer, Listing, Lookup, Options, Refusal, Refused, Settings, lookup, lookup_with, repeats, resolve_with};
 use std::path::Path;
 use std::process::ExitCode;
 use std::{env, fs, io};
@@ -12,6 +12,8 @@ hannuvozh ask START SPECIFIER                    asks the files tree and setting
 hannuvozh ask                                    asks the files tree, settings and question of this folder
 hannuvozh resolve FOLDER START SPECIFIER [OPTION TEXT]..
                                                  asks about a folder on disk, of any size; START is a path in it that begins with /
+hannuvozh check FOLDER                           says which package.json of the folder no lookup can read, and warns of member names that
+                                                 come more than once in one object
 
 OPTION is --condition, --extension, --main-field, --main-file or --exports-field, each as often as wanted. Without any: the conditions
 node and require, the extensions .js, .json and .node, main, index, exports.
@@ -19,7 +21,8 @@ node and require, the extensions .js, .json and .node, main, index, exports.
 First may stand: --plain, which leaves the words out; --limit N, which refuses a lookup that needs more than N consults (18777 if not
 given, which no bare name passes); --preview, a limit of 512.
 
-The exit status is 0 where a file is found, 1 for any other answer, 2 for a refusal, 3 where the command can't be carried out.
+The exit status is 0 where a file is found, 1 for any other answer, 2 for a refusal, 3 where the command can't be carried out. That of
+check is 0 where every package.json can be read, 1 where one is not JSON, 2 where one is over a limit; a warning does not count.
 ";
 
 fn settings(options: &[&str]) -> Result<Settings, String> {
@@ -125,6 +128,41 @@ fn ask(ways: &Ways, start: &[u8], specifier: &[u8]) -> Result<u8, String> {
     Ok(print(ways.plain, &String::from_utf8_lossy(start), &String::from_utf8_lossy(specifier), &outcome))
 }
 
+/// The exit status that a manifest's fault gives, which the lookup finds: it is the first thing read where a name is asked for beside it.
+fn fault(manifest: &[u8]) -> u8 {
+    let listing = Listing::new().manifest("/", manifest).to_bytes();
+    match lookup(&listing, &Settings::require().to_bytes(), "/", "a") {
+        Ok(looked) => u8::from(matches!(looked.answer(), Answer::Json { .. })),
+        // One that is too long for a listing is over its own limit too.
+        Err(refused) => 2 * u8::from(matches!(refused.refusal(), Refusal::ManifestLimit | Refusal::ListingSizes)),
+    }
+}
+
+/// What can be said of one manifest: its exit status, and how many warnings.
+fn check_manifest(path: &str, manifest: &[u8]) -> (u8, usize) {
+    let status = fault(manifest);
+    match status {
+        1 => println!("{path}: not JSON"),
+        2 => println!("{path}: over a limit"),
+        _ => {}
+    }
+    let found = if status == 0 { repeats(manifest) } else { Vec::new() };
+    found.iter().for_each(|repeat| println!("{path}: warning: {repeat}"));
+    (status, found.len())
+}
+
+fn check(folder: &Path) -> io::Result<u8> {
+    let listing = Listing::from_folder(folder, "/")?;
+    let (mut status, mut warnings) = (0, 0);
+    for (path, manifest) in listing.manifests() {
+        let (fault, found) = check_manifest(&String::from_utf8_lossy(path), manifest);
+        status = status.max(fault);
+        warnings += found;
+    }
+    println!("{} manifests, {warnings} warnings", listing.manifests().count());
+    Ok(status)
+}
+
 fn run(args: &[&str]) -> Result<u8, String> {
     let words = |fault: io::Error| fault.to_string();
     let (ways, args) = ways(args)?;
@@ -137,6 +175,7 @@ fn run(args: &[&str]) -> Result<u8, String> {
             fs::write("question", format!("{start}\n{specifier}")).map_err(words)?;
             ask(&ways, start.as_bytes(), specifier.as_bytes())
         }
+        ["check", folder] => check(Path::new(folder)).map_err(words),
         ["resolve", folder, start, specifier, options @ ..] => {
             let packed = resolve_with(ways.options, Path::new(folder), &settings(options)?, start, specifier).map_err(words)?;
             Ok(print(ways.plain, start, specifier, &packed.outcome))

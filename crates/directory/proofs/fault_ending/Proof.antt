@@ -1,4 +1,5 @@
-use Rattle.directory.proofs.Manifests.{ending-named, sound-malformed, sound-beyond, sound-twice}
+-- Each fault ends the lookup as `sound` does.
+use Rattle.directory.proofs.Manifests.{ending-named, sound-malformed, sound-beyond}
 use borrow.Author.Needs.{needs}
 use Rattle.directory.proofs.fault_ending.Statement.{statement}
 use Rattle.directory.proofs.fault_ending.Tie as tie
@@ -16,8 +17,5 @@ fault-ending-spec =
     (λ c. search needs)
     (λ c κs. search needs)
     (λ c. search needs)
-    (λ c κs. search needs)
-    (λ c. search needs)
     (λ c. λ L ns list m. rw (c .before .before .before .before .enum-told .given .1) (sound-malformed _ ns list m (ending-named _ _ _ _ _ (c .before .before .before .before .before .before .before .before .pre) (c .before .before .manifest-ending .ensures))))
-    (λ c. λ L ns list m. rw (c .before .enum-told2 .given .1, c .refuse .ensures) (sound-beyond _ ns list m))
-    (λ c. λ L ns list m. rw (c .before .enum-told3 .given .1, c .refuse2 .ensures) (sound-twice _ ns list m)))
+    (λ c. λ L ns list m. rw (c .before .enum-told2 .given .1, c .refuse .ensures) (sound-beyond _ ns list m)))

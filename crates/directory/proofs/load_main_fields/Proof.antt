@@ -5,7 +5,7 @@ use Prim.Native.Nat.{_-_, _<_}
 use native.Mathlib.Omega.{arith}
 use lib.ListN.{length, drop}
 use Rattle.definition.specs.Json.{Json}
-use Rattle.laws.specs.JsonAtLaws.{Stands}
+use Rattle.package_json.specs.Values.{Stands}
 use Rattle.definition.specs.Settings.{textsOf, settingsOf}
 use Rattle.definition.specs.Called.{seenBy}
 use Rattle.consults.specs.Loop.{Left, left-start, left-again, left-stop, left-end}

@@ -4,7 +4,6 @@ use mathlib.Core.Path.{_≡_, refl, _∙_}
 use lib.ListN.{length}
 use Rattle.definition.specs.Json.{Members, obj}
 use Rattle.package_target.specs.Places.{Stands}
-use Rattle.package_target.proofs.Places.{first-members}
 use Rattle.exports.proofs.Objects.{Keyed, keyed-start, keyed-done, keyed-over, keyed-on}
 use Rattle.exports.proofs.keys_of.Statement.{statement}
 use Rattle.exports.proofs.keys_of.Tie as tie
@@ -22,7 +21,7 @@ keys-of-spec =
     Inv-loop
     μ-loop
     (λ c κs. search needs)
-    (λ c. (refl, λ ms h. keyed-start (c .before .before .before .args .m .now) ms (c .first-member .result) (first-members (c .before .before .before .args .m .now) (c .before .before .before .args .at) (c .first-member .result) (c .first-member .ensures) 14 ms h)))
+    (λ c. (refl, λ ms h. keyed-start (c .before .before .before .args .m .now) (c .before .before .before .args .at) ms (c .first-member .result) (c .first-member .ensures) h))
     (λ c. search needs)
     (λ c. c .before .before .before .loop .inv .0)
     (λ c. λ ms h. keyed-done (c .before .before .before .loop .inv .1 ms h) (c .enum-told .given .1))
