@@ -1,11 +1,8 @@
 // Specifiers: `Specifier::parse`, the path of one in which something is escaped, and parts of a slice.
 ghost use mathlib.Core.Path.{_≡_};
-ghost use mathlib.Core.Bool.{_&&_};
 ghost use mathlib.Core.List.{flatMap};
-ghost use Prim.Native.Nat.{_+_, _<_};
-ghost use lib.Dec.{eqb};
-ghost use lib.ListN.{length, drop, take, getD};
-ghost use Rattle.definition.specs.Text.{text, startsWith, utf8};
+ghost use lib.ListN.{drop, take};
+ghost use Rattle.definition.specs.Text.{utf8};
 ghost use Rattle.definition.specs.Path.{limited};
 ghost use Rattle.definition.specs.Specifier.{unescape, parseSpecifier};
 ghost use Rattle.path.specs.Meaning.{pathOf};
