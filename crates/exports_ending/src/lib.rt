@@ -4,7 +4,6 @@ use consults::Ending;
 use consults::Mark;
 use consults::Way;
 use exports::Key;
-use path::PathBuf;
 use targets::Match;
 use targets::Outcome;
 ghost use mathlib.Core.Path.{_≡_};
@@ -48,8 +47,7 @@ fn invalid_target(
     requires { ⌜ (1024 ≤ length (now work)) × (length (manifestOf (now dir)) ≤ 2048) ⌝ }
     ensures { λ r. ⌜ Finishes 3 (now (target .entry)) (keyText (now (m .entry)) (now (subpath .entry)) key) (manifestOf (now (dir .entry))) r (now (result .entry)) (now (result .exit)) ⌝ }
 {
-    let mut p = PathBuf::new();
-    p.len = path::manifest_path(dir, &mut p.bytes);
+    let p = path::manifest_path(dir);
     let n = p.len;
     let manifest = path::first(&p.bytes, n);
     match key {

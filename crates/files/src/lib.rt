@@ -2,7 +2,6 @@
 use consults::Mark;
 use consults::Out;
 use consults::Way;
-use path::PathBuf;
 use settings::Kind;
 ghost use mathlib.Core.List.{[]};
 ghost use Prim.Native.Nat.{_+_};
@@ -31,8 +30,7 @@ fn try_extension<'a>(
     ensures { λ r. ⌜ ((G : Settings) → Done (seenBy G (now (l .entry))) (tryExtension G (place (now (path .entry)) (now (query .entry)) (now (fragment .entry))) (getD (textsOf (now (s .entry)) 1) i [])) (tapeOf (now (result .entry)) (now (nums .entry)) (now (text .entry)) m) (tapeOf (now (result .exit)) (now (nums .exit)) (now (text .exit)) (r .mark)) (stepOf (r .way))) ⌝ }
 {
     let ext = settings::text(s, Kind::Extensions, i);
-    let mut p = PathBuf::new();
-    p.len = path::add_extension(path, ext, &mut p.bytes);
+    let p = path::add_extension(path, ext);
     let n = p.len;
     questions::try_path(l, &p.bytes, n, query, fragment, result, nums, text, m)
 }
@@ -88,8 +86,7 @@ fn try_index<'a>(
     ensures { λ r. ⌜ ((G : Settings) → Done (seenBy G (now (l .entry))) (tryIndex G (place (now (path .entry)) (now (query .entry)) (now (fragment .entry))) (now (file .entry)) (getD (textsOf (now (s .entry)) 1) i [])) (tapeOf (now (result .entry)) (now (nums .entry)) (now (text .entry)) m) (tapeOf (now (result .exit)) (now (nums .exit)) (now (text .exit)) (r .mark)) (stepOf (r .way))) ⌝ }
 {
     let ext = settings::text(s, Kind::Extensions, i);
-    let mut p = PathBuf::new();
-    p.len = path::add_name_and_extension(path, file, ext, &mut p.bytes);
+    let p = path::add_name_and_extension(path, file, ext);
     let n = p.len;
     questions::try_path(l, &p.bytes, n, query, fragment, result, nums, text, m)
 }

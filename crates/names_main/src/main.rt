@@ -51,36 +51,6 @@ fn is(p: PathBuf, t: &[u8]) -> bool {
     text::equal(path::first(&p.bytes, n), t)
 }
 
-fn with(base: &[u8], sub: &[u8]) -> PathBuf {
-    let mut p = PathBuf::new();
-    p.len = path::normalize_with(base, sub, &mut p.bytes);
-    p
-}
-
-fn relative(path: &[u8]) -> PathBuf {
-    let mut p = PathBuf::new();
-    p.len = path::normalize_relative(path, &mut p.bytes);
-    p
-}
-
-fn extended(path: &[u8], ext: &[u8]) -> PathBuf {
-    let mut p = PathBuf::new();
-    p.len = path::add_extension(path, ext, &mut p.bytes);
-    p
-}
-
-fn main_file(path: &[u8], name: &[u8], ext: &[u8]) -> PathBuf {
-    let mut p = PathBuf::new();
-    p.len = path::add_name_and_extension(path, name, ext, &mut p.bytes);
-    p
-}
-
-fn manifest(dir: &[u8]) -> PathBuf {
-    let mut p = PathBuf::new();
-    p.len = path::manifest_path(dir, &mut p.bytes);
-    p
-}
-
 fn built(which: u8, row: &[u8]) -> bool {
     let a = field(row, 1);
     let p = PathBuf::from(a);
@@ -94,22 +64,25 @@ fn built(which: u8, row: &[u8]) -> bool {
         return is(p.append(field(row, 2)), field(row, 3));
     }
     if which == b'i' {
-        return is(main_file(a, field(row, 2), field(row, 3)), field(row, 4));
+        return is(
+            path::add_name_and_extension(a, field(row, 2), field(row, 3)),
+            field(row, 4),
+        );
     }
     if which == b'e' {
-        return is(extended(a, field(row, 2)), field(row, 3));
+        return is(path::add_extension(a, field(row, 2)), field(row, 3));
     }
-    is(manifest(a), field(row, 2))
+    is(path::manifest_path(a), field(row, 2))
 }
 
 fn path_row(which: u8, row: &[u8]) -> bool {
     let a = field(row, 1);
     let b = field(row, 2);
     if which == b'w' {
-        return is(with(a, b), field(row, 3));
+        return is(path::normalize_with(a, b), field(row, 3));
     }
     if which == b'r' {
-        return is(relative(a), b);
+        return is(path::normalize_relative(a), b);
     }
     if which == b'x' {
         return path::is_invalid_exports_target(a) == text::equal(b, b"invalid");
@@ -147,8 +120,8 @@ fn strip(s: &[u8], name: &[u8], wanted: &[u8]) -> bool {
 
 // The normalised specifier, and whether it leaves the directory of the first walk.
 fn climb(s: &[u8], wanted: &[u8], up: &[u8]) -> bool {
-    let mut p = PathBuf::new();
-    let n = package_name::normalized(s, &mut p.bytes);
+    let p = package_name::normalized(s);
+    let n = p.len;
     let to = path::first(&p.bytes, n);
     let above = package_name::may_climb(s) && package_name::climbs(to);
     text::equal(to, wanted) && above == text::equal(up, b"up")
@@ -177,9 +150,7 @@ fn is_path(s: &[u8], escaped: bool, path: &[u8]) -> bool {
     if !escaped {
         return text::equal(s, path);
     }
-    let mut p = PathBuf::new();
-    let n = specifier::unescaped(s, &mut p.bytes);
-    text::equal(path::first(&p.bytes, n), path)
+    is(specifier::unescaped(s), path)
 }
 
 fn parse(s: &[u8], path: &[u8], query: &[u8], fragment: &[u8]) -> bool {
@@ -258,10 +229,16 @@ fn limits(a: &[u8]) -> usize {
     n = tick(n, over(p.push(path::first(a, 8))));
     n = tick(n, has(p.append(path::first(a, 8)), 2048));
     n = tick(n, over(p.append(path::first(a, 9))));
-    n = tick(n, has(main_file(base, b"inde", b".js"), 2048));
-    n = tick(n, over(main_file(base, b"index", b".js")));
-    n = tick(n, has(with(base, b"./aaaaaaa"), 2048));
-    n = tick(n, over(with(base, b"./aaaaaaaa")));
+    n = tick(
+        n,
+        has(path::add_name_and_extension(base, b"inde", b".js"), 2048),
+    );
+    n = tick(
+        n,
+        over(path::add_name_and_extension(base, b"index", b".js")),
+    );
+    n = tick(n, has(path::normalize_with(base, b"./aaaaaaa"), 2048));
+    n = tick(n, over(path::normalize_with(base, b"./aaaaaaaa")));
     n
 }
 
@@ -269,14 +246,17 @@ fn limits(a: &[u8]) -> usize {
 fn more_limits(a: &[u8]) -> usize {
     let base = path::first(a, 2040);
     let mut n: usize = 0;
-    n = tick(n, over(with(base, b"aaaaaaaa/..")));
-    n = tick(n, has(with(base, b"aaaaaaa/../b"), 2042));
-    n = tick(n, has(with(path::first(a, 2048), b"./."), 2048));
-    n = tick(n, over(with(path::first(a, 2049), b"..")));
-    n = tick(n, has(with(path::first(a, 2049), b"/b"), 2));
-    n = tick(n, over(with(b"/", a)));
-    n = tick(n, has(relative(path::first(a, 2048)), 2048));
-    n = tick(n, over(relative(path::first(a, 2049))));
+    n = tick(n, over(path::normalize_with(base, b"aaaaaaaa/..")));
+    n = tick(n, has(path::normalize_with(base, b"aaaaaaa/../b"), 2042));
+    n = tick(
+        n,
+        has(path::normalize_with(path::first(a, 2048), b"./."), 2048),
+    );
+    n = tick(n, over(path::normalize_with(path::first(a, 2049), b"..")));
+    n = tick(n, has(path::normalize_with(path::first(a, 2049), b"/b"), 2));
+    n = tick(n, over(path::normalize_with(b"/", a)));
+    n = tick(n, has(path::normalize_relative(path::first(a, 2048)), 2048));
+    n = tick(n, over(path::normalize_relative(path::first(a, 2049))));
     n
 }
 
@@ -288,9 +268,9 @@ fn stays_over(a: &[u8]) -> usize {
     n = tick(n, over(p.push(b"")));
     n = tick(n, over(p.pop()));
     n = tick(n, over(p.append(b"")));
-    n = tick(n, over(main_file(a, b"", b"")));
-    n = tick(n, over(extended(a, b"")));
-    n = tick(n, over(manifest(a)));
+    n = tick(n, over(path::add_name_and_extension(a, b"", b"")));
+    n = tick(n, over(path::add_extension(a, b"")));
+    n = tick(n, over(path::manifest_path(a)));
     n
 }
 
@@ -413,32 +393,24 @@ fn specifier_limits(a: &[u8]) -> usize {
 
 // A path of 2,048 bytes fits, of one more does not; so does one of 1,023 characters of two bytes and a "#".
 fn long_paths(a: &[u8]) -> usize {
-    let mut out = [0u8; 2048];
     let mut w = [0xE9u8; 1027];
     w[1023] = 0;
     w[1024] = b'#';
     let mut n: usize = 0;
-    n = tick(
-        n,
-        specifier::unescaped(path::first(a, 2048), &mut out) == 2048,
-    );
-    n = tick(n, specifier::unescaped(a, &mut out) > 2048);
-    n = tick(n, specifier::unescaped(&w[..1025], &mut out) == 2047);
-    tick(n, specifier::unescaped(&w, &mut out) > 2048)
+    n = tick(n, has(specifier::unescaped(path::first(a, 2048)), 2048));
+    n = tick(n, over(specifier::unescaped(a)));
+    n = tick(n, has(specifier::unescaped(&w[..1025]), 2047));
+    tick(n, over(specifier::unescaped(&w)))
 }
 
 // A specifier of 2,048 bytes is normalised, with a "/" at its end or without; one of more is over-long.
 fn long_climbs(a: &[u8]) -> usize {
-    let mut out = [0u8; 2048];
     let mut s = [b'a'; 2048];
     s[2047] = b'/';
     let mut n: usize = 0;
-    n = tick(
-        n,
-        package_name::normalized(path::first(a, 2048), &mut out) == 2048,
-    );
-    n = tick(n, package_name::normalized(&s, &mut out) == 2048);
-    tick(n, package_name::normalized(a, &mut out) > 2048)
+    n = tick(n, has(package_name::normalized(path::first(a, 2048)), 2048));
+    n = tick(n, has(package_name::normalized(&s), 2048));
+    tick(n, over(package_name::normalized(a)))
 }
 
 fn main() {

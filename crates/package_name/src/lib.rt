@@ -1,11 +1,12 @@
 // The specifier of a package: its check, its name and what stands behind that, and its form for the second walk.
+use path::PathBuf;
 ghost use mathlib.Core.Path.{_≡_};
 ghost use mathlib.Core.Bool.{_||_};
 ghost use lib.ListN.{length};
 ghost use Rattle.definition.specs.Text.{text, equal, containsText, overwrite};
 ghost use Rattle.definition.specs.Path.{andPath, limited};
 ghost use Rattle.definition.specs.Specifier.{packageName, packageSubpath, dotSubpath, stripPackageName, isBare, normalizedSpecifier, isSpecifier};
-ghost use Rattle.path.specs.Meaning.{pathAt};
+ghost use Rattle.path.specs.Meaning.{pathOf};
 ghost use Rattle.package_name.specs.Meaning.{tailOf};
 
 // Where the name ends: at the first "/", of a name that begins with "@" at the second.
@@ -125,16 +126,16 @@ pub fn may_climb(s: &[u8]) -> bool
     text::contains_text(s, b"../../")
 }
 
-// The specifier of the second walk, with the "/" at its end kept, written to the bytes of a path. The answer is its length, one over 2,048 where it is
-// over-long.
-pub fn normalized(s: &[u8], out: &mut [u8; 2048]) -> usize
-    ensures { λ r. ⌜ pathAt (now (out .exit)) r ≡ andPath (limited (now (s .entry))) (λ p. limited (normalizedSpecifier p)) ⌝ }
+// The specifier of the second walk, with the "/" at its end kept.
+pub fn normalized(s: &[u8]) -> PathBuf
+    ensures { λ r. ⌜ pathOf r ≡ andPath (limited (now (s .entry))) (λ p. limited (normalizedSpecifier p)) ⌝ }
 {
-    let n = path::normalize_relative(s, out);
+    let p = path::normalize_relative(s);
     if text::ends_with(s, b"/") {
-        return path::append_at(out, n, b"/");
+        p.append(b"/")
+    } else {
+        p
     }
-    n
 }
 
 // Whether a normalised specifier leaves the directory of the first walk.

@@ -7,12 +7,12 @@ use mathlib.Core.List.{List, [], _∷_, _++_}
 use lib.ListN.{length, drop, take, getD, length-take}
 use lib.Seq.{take-suc}
 use lib.Dec.{eqb, leb, ltb}
-use borrow.Author.Tests.{ltb-true, ltb-false, leb-true, leb-false}
+use borrow.Author.Tests.{ltb-true, ltb-false, leb-true, leb-false, eqb-true, eqb-false}
 use Rattle.definition.specs.Text.{text, slash, if_then_else_, equal, startsWith, equalIgnoringCase, before, text-computes}
 use Rattle.laws.specs.TextLaws.{equal-true, startsWith-length}
 use Rattle.laws.specs.TextSteps.{first-inside}
 use Rattle.definition.specs.Path.{path-computes, parentDir, normal, component, push, parent, pops, Built, built, tooLong, andPath, limited, pushComponent, pushAll, pushRelative, normalizeWith, normalizeRelative, invalidComponent, anyInvalid}
-use Rattle.laws.specs.PathLaws.{limited-fits, component-up, parts, parts-more, parts-last, parts-rooted, rooted, not-rooted, anyInvalid-append, pushAll-append, pushRelative-append, rootOf, relative-parts, parent-short, room, room-high, relative-length, with-parts}
+use Rattle.laws.specs.PathLaws.{limited-fits, component-up, parts, parts-more, parts-last, parts-rooted, rooted, not-rooted, anyInvalid-append, pushAll-append, pushRelative-append, rootOf, relative-parts, parent-short, room, room-high, relative-length, with-empty, with-rooted, with-parts}
 use Rattle.laws.specs.PathSteps.{starts-with, starts-empty}
 use Rattle.path.specs.Meaning.{pathAt}
 use Rattle.path.proofs.Steps.{at-fits, at-long}
@@ -145,68 +145,99 @@ module _ (p : List ℕ) (h : length p ≡ 0 → ⊥) where
   unfolding rootOf
   root-none n = rw (not-rooted p some n)
 
-pub root-short : (p : List ℕ) → length (rootOf p) ≤ length p
-unfolding rootOf
-root-short p = go (startsWith (text "/") p) refl
-  where
-    go : (u : Bool) → startsWith (text "/") p ≡ u → length (if u then text "/" else []) ≤ length p
-    go true h = startsWith-length (text "/") p h
-    go false h = omega arith
-
--- `normalize_relative`: a path x so far, of at most `at` bytes with a slash behind it, and the parts from `at` on left
-pub record Going (b : Built) (p : List ℕ) (at : ℕ) : Type 0 where
+-- `push_relative_parts`: from a path x₀, a path so far and the parts from `at` on left
+pub record Going (x₀ : List ℕ) (b : Built) (sub : List ℕ) (at : ℕ) : Type 0 where
   pub so : List ℕ
   pub is : b ≡ built so
-  pub short : room so ≤ at
-  pub rest : pushRelative (parts (drop at p)) so ≡ normalizeRelative p
+  pub short : room so ≤ room x₀ + at
+  pub rest : pushRelative (parts (drop at sub)) so ≡ pushRelative (parts sub) x₀
 
-pub going-start : (b : Built) (p : List ℕ) (at : ℕ) → b ≡ limited (rootOf p) → at ≡ length (rootOf p) → Going b p at
-going-start b p at e f = rw f (go (startsWith (text "/") p) p refl e)
-  where
-    go : (u : Bool) (p : List ℕ) → startsWith (text "/") p ≡ u → b ≡ limited (rootOf p) → Going b p (length (rootOf p))
-    go false p h e =
-        let r : rootOf p ≡ [] = unfold rootOf in (rw h) in
-        rw r record {
-          so = [];
-          is = e ∙ rw r (limited-fits [] (omega arith));
-          short = unfold room text-computes in (omega arith);
-          rest = sym (relative-parts p ∙ rw r);
-        }
-    go true [] h e = absurd (false≢true (sym (starts-empty slash [] refl) ∙ h))
-    go true (c ∷ s) h e =
-        let r : rootOf (c ∷ s) ≡ text "/" = unfold rootOf in (rw h) in
-        let k : eqb slash c ≡ true = sym (starts-with slash (c ∷ s) (omega arith)) ∙ h in
-        rw r record {
-          so = text "/";
-          is = e ∙ rw r (limited-fits (text "/") (omega arith));
-          short = unfold room text-computes in (omega arith);
-          rest = sym (relative-parts (c ∷ s) ∙ rw (r, parts-rooted c s k));
-        }
+pub going-start : (x₀ : List ℕ) (b : Built) (sub : List ℕ) → b ≡ built x₀ → Going x₀ b sub 0
+going-start x₀ b sub e = record { so = x₀; is = e; short = (omega arith); rest = refl }
 
-module _ (x y : Built) (p : List ℕ) (at e : ℕ) (h : e ≡ at + length (before slash (drop at p))) (i : at ≤ length p) (l : length p ≤ 2048)
-    (g : Going x p at) (k : y ≡ andPath x (λ q. limited (pushRelative (component (take (e - at) (drop at p))) q))) where
+module _ (x₀ : List ℕ) (x y : Built) (sub : List ℕ) (at e : ℕ) (h : e ≡ at + length (before slash (drop at sub))) (i : at ≤ length sub)
+    (l : room x₀ + length sub ≤ 2048) (g : Going x₀ x sub at) (k : y ≡ andPath x (λ q. limited (pushRelative (component (take (e - at) (drop at sub))) q))) where
   abbrev part : List ℕ
-  part = take (e - at) (drop at p)
+  part = take (e - at) (drop at sub)
 
   abbrev next : List ℕ
   next = pushRelative (component part) (g .so)
 
-  next-length : length next ≤ e
-  next-length = let s = g .short in omega (arith, relative-length (g .so) part, length-take (e - at) (drop at p))
+  next-length : length next ≤ room x₀ + e
+  next-length = let s = g .short in omega (arith, relative-length (g .so) part, length-take (e - at) (drop at sub))
 
   next-is : y ≡ built next
-  next-is = k ∙ rw (g .is) (limited-fits next (let s = next-length in omega (arith, first-inside slash p at e h i)))
+  next-is = k ∙ rw (g .is) (limited-fits next (let s = next-length in omega (arith, first-inside slash sub at e h i)))
 
-  pub going-more : e < length p → Going y p (e + 1)
+  pub going-more : e < length sub → Going x₀ y sub (e + 1)
   going-more m = record {
     so = next;
     is = next-is;
     short = (let s = next-length in omega (arith, room-high next));
-    rest = sym (pushRelative-append (component part) (parts (drop (e + 1) p)) (g .so)) ∙ rw (← parts-more p at e h m) (g .rest);
+    rest = sym (pushRelative-append (component part) (parts (drop (e + 1) sub)) (g .so)) ∙ rw (← parts-more sub at e h m) (g .rest);
   }
 
-  pub going-last : length p ≤ e → y ≡ andPath (limited p) (λ q. built (normalizeRelative q))
-  going-last m = next-is ∙ rw (limited-fits p l, ← g .rest, parts-last p at e h m)
+  pub going-last : length sub ≤ e → y ≡ built (pushRelative (parts sub) x₀)
+  going-last m = next-is ∙ rw (← g .rest, parts-last sub at e h m)
+
+-- `normalize_relative`: behind "/" stands what is left to push, and it has room
+pub record Root (p : List ℕ) : Type 0 where
+  pub short : length (rootOf p) ≤ length p
+  pub none : room (rootOf p) ≡ length (rootOf p)
+  pub rest : pushRelative (parts (drop (length (rootOf p)) p)) (rootOf p) ≡ normalizeRelative p
+
+pub root-of : (p : List ℕ) → Root p
+root-of p = go (startsWith (text "/") p) p refl
+  where
+    go : (u : Bool) (p : List ℕ) → startsWith (text "/") p ≡ u → Root p
+    go false p h =
+        let r : rootOf p ≡ [] = unfold rootOf in (rw h) in
+        record {
+          short = rw r (omega arith);
+          none = rw r (unfold room text-computes in refl);
+          rest = rw r (sym (relative-parts p ∙ rw r));
+        }
+    go true [] h = absurd (false≢true (sym (starts-empty slash [] refl) ∙ h))
+    go true (c ∷ s) h =
+        let r : rootOf (c ∷ s) ≡ text "/" = unfold rootOf in (rw h) in
+        let k : eqb slash c ≡ true = sym (starts-with slash (c ∷ s) (omega arith)) ∙ h in
+        record {
+          short = rw r (omega arith);
+          none = rw r (unfold room text-computes in refl);
+          rest = rw r (sym (relative-parts (c ∷ s) ∙ rw (r, parts-rooted c s k)));
+        }
+
+-- `is_whole`: a subpath that is empty or absolute, and what `normalize_with` makes of it
+pub whole-empty : (s : List ℕ) → length s ≡ 0 → true ≡ equal s [] || startsWith (text "/") s
+whole-empty [] h = unfold equal in refl
+whole-empty (b ∷ s) h = absurd (let z : ⊥ = omega arith in z)
+
+pub whole-first : (s : List ℕ) → (length s ≡ 0 → ⊥) → eqb (getD s 0 0) slash ≡ equal s [] || startsWith (text "/") s
+whole-first [] h = absurd (h refl)
+whole-first (b ∷ s) h = go (eqb b slash) refl
+  where
+    go : (u : Bool) → eqb b slash ≡ u → u ≡ equal (b ∷ s) [] || startsWith (text "/") (b ∷ s)
+    go true e = rw (rooted (b ∷ s) (omega arith) (eqb-true b slash e)) (unfold equal in refl)
+    go false e = rw (not-rooted (b ∷ s) (omega arith) (eqb-false b slash e)) (unfold equal in refl)
+
+module _ (base sub : List ℕ) where
+  pub with-whole : equal sub [] || startsWith (text "/") sub ≡ true → normalizeWith base sub ≡ limited sub
+  with-whole h = go (eqb (length sub) 0) refl
+    where
+      go : (u : Bool) → eqb (length sub) 0 ≡ u → normalizeWith base sub ≡ limited sub
+      go true e = with-empty base sub (eqb-true (length sub) 0 e)
+      go false e =
+          let n = eqb-false (length sub) 0 e in
+          with-rooted base sub (omega arith) (eqb-true (getD sub 0 0) slash (whole-first sub n ∙ h))
+
+  pub with-relative : equal sub [] || startsWith (text "/") sub ≡ false → normalizeWith base sub ≡ andPath (limited base) (λ p. pushAll (parts sub) p)
+  with-relative h = go (eqb (length sub) 0) refl
+    where
+      go : (u : Bool) → eqb (length sub) 0 ≡ u → normalizeWith base sub ≡ andPath (limited base) (λ p. pushAll (parts sub) p)
+      go true e = absurd (false≢true (sym h ∙ sym (whole-empty sub (eqb-true (length sub) 0 e))))
+      go false e =
+          let n = eqb-false (length sub) 0 e in
+          with-parts base sub (omega arith) (eqb-false (getD sub 0 0) slash (whole-first sub n ∙ h))
 
 -- `normalize_below`: "./" in front adds no part
 dot-parts : (s : List ℕ) → parts (text "./" ++ s) ≡ parts s

@@ -1,3 +1,2 @@
 pub mod Fragment
-pub mod Widening
 pub mod Parsed

@@ -14,7 +14,7 @@ use Rattle.definition.specs.Path.{limited}
 use Rattle.definition.specs.Specifier.{parsed, emptySpecifier, beforeFragment, body, unescape, pathBefore, orEmpty, parseSpecifier}
 use Rattle.laws.specs.SpecifierLaws.{before-take}
 use Rattle.specifier.specs.Meaning.{Scanned, parts, noPath, partsOf, pathText}
-use Rattle.specifier.proofs.Widening.{widened-some}
+use Rattle.path.proofs.Widening.{widened-some}
 
 -- what stands before the fragment is a start of the specifier
 fragment-take : (p : ℕ) (s : List ℕ) → beforeFragment p s ≡ take (length (beforeFragment p s)) s

@@ -1,15 +1,13 @@
 // Specifiers: `Specifier::parse`, the path of one in which something is escaped, and parts of a slice.
 ghost use mathlib.Core.Path.{_≡_};
-ghost use mathlib.Core.Bool.{_&&_};
 ghost use mathlib.Core.List.{flatMap};
-ghost use Prim.Native.Nat.{_+_, _<_};
-ghost use lib.Dec.{eqb};
-ghost use lib.ListN.{length, drop, take, getD};
-ghost use Rattle.definition.specs.Text.{text, startsWith, utf8};
-ghost use Rattle.definition.specs.Path.{andPath, limited, addExtension};
+ghost use lib.ListN.{drop, take};
+ghost use Rattle.definition.specs.Text.{utf8};
+ghost use Rattle.definition.specs.Path.{limited};
 ghost use Rattle.definition.specs.Specifier.{unescape, parseSpecifier};
-ghost use Rattle.path.specs.Meaning.{pathAt};
+ghost use Rattle.path.specs.Meaning.{pathOf};
 ghost use Rattle.specifier.specs.Meaning.{Scanned, partsOf, meant};
+use path::PathBuf;
 
 // What stands from a place on, nothing where the place is past the end.
 pub fn tail(s: &[u8], at: usize) -> &[u8]
@@ -65,58 +63,11 @@ fn scan(s: &[u8]) -> Cut
     }
 }
 
-// Byte 0 before "#" leaves the path.
-fn is_escape(s: &[u8], i: usize) -> bool
-    requires { ⌜ i < length (now s) ⌝ }
-    ensures { λ r. ⌜ r ≡ eqb (getD (now (s .entry)) i 0) 0 && startsWith (text "#") (drop (i + 1) (now (s .entry))) ⌝ }
+// The path of a specifier in which something is escaped, of what stands before the query.
+pub fn unescaped(s: &[u8]) -> PathBuf
+    ensures { λ r. ⌜ pathOf r ≡ limited (flatMap utf8 (unescape (now (s .entry)))) ⌝ }
 {
-    if s[i] != 0 {
-        return false;
-    }
-    if i + 1 >= s.len() {
-        return false;
-    }
-    if s[i + 1] == b'#' {
-        return true;
-    }
-    false
-}
-
-// A byte taken for a character, written behind the first n bytes. The answer is the new length.
-fn widen(out: &mut [u8], n: usize, b: u8) -> usize
-    requires { ⌜ length (now out) ≡ 2048 ⌝ }
-    ensures { λ r. ⌜ pathAt (now (out .exit)) r ≡ andPath (pathAt (now (out .entry)) n) (λ p. addExtension p (utf8 b)) ⌝ }
-{
-    if b < 128 {
-        if n >= 2048 {
-            return 2049;
-        }
-        out[n] = b;
-        return n + 1;
-    }
-    if n >= 2047 {
-        return 2049;
-    }
-    out[n] = 192 + b / 64;
-    out[n + 1] = 128 + b % 64;
-    n + 2
-}
-
-// The path of a specifier in which something is escaped, of what stands before the query, written to the bytes of a path. The answer is its length, one
-// over 2,048 where it is over-long.
-pub fn unescaped(s: &[u8], out: &mut [u8; 2048]) -> usize
-    ensures { λ r. ⌜ pathAt (now (out .exit)) r ≡ limited (flatMap utf8 (unescape (now (s .entry)))) ⌝ }
-{
-    let mut n: usize = 0;
-    let mut i: usize = 0;
-    while i < s.len() {
-        let skip = is_escape(s, i);
-        if !skip {
-            n = widen(out, n, s[i]);
-        }
-        i += 1;
-    }
-    n
+    PathBuf::new().append_unescaped(s)
 }
 
 // A parsed specifier: where its query and its fragment begin. The path is what stands before the query, the query runs to the fragment, the fragment

@@ -4,16 +4,16 @@ use mathlib.Core.Bool.{Bool, true, false}
 use mathlib.Core.List.{List, _++_}
 use Prim.Native.Nat.{ℕ, _+_, _<_, _≤_}
 use native.Mathlib.Omega.{arith}
-use lib.ListN.{length, take}
+use lib.ListN.{length, take, length-take}
 use lib.Dec.{leb}
 use borrow.Author.Tests.{leb-true, leb-false, lt-ltb, le-ltb}
-use Rattle.definition.specs.Text.{text, star, contains, endsWith, replace}
+use Rattle.definition.specs.Text.{text, star, contains, endsWith, replace, overwrite}
 use Rattle.definition.specs.Path.{Built, built, tooLong, andPath, limited, addExtension, normalizeWith, isInvalidExportsTarget}
 use Rattle.laws.specs.PathLaws.{limited-fits, limited-long as limited-over, limited-append}
 use Rattle.definition.specs.Exports as exports
 use Rattle.definition.specs.Exports.{Request, found, overlong, target, directoryError, targetPath, invalidTarget, outcomeOf, normalizeStringTarget}
 use Rattle.path.specs.Meaning.{pathAt}
-use Rattle.path.proofs.Steps.{at-fits, at-long}
+use Rattle.path.proofs.Steps.{at-fits, at-long, put-fits}
 use Rattle.targets.specs.declared.Context.{Context}
 use Rattle.targets.specs.declared.Form.{Form}
 use Rattle.targets.specs.declared.Form.the-variants.{Plain, Starred, Folder}
@@ -64,6 +64,20 @@ path-text b n t e l = go (leb n 2048) refl
     go : (u : Bool) → leb n 2048 ≡ u → take n b ≡ t
     go true h = limited-text t (take n b) (text-of b n (limited t) e (leb-true _ _ h))
     go false h = clash (sym (limited-fits t l) ∙ no-text b n (limited t) e (leb-false _ _ h))
+
+pub first-short : (n : ℕ) (b t : List ℕ) → t ≡ take n b → n ≤ 2048 → length t ≤ 2048
+first-short n b t e h = omega (arith, ap length e, length-take n b)
+
+-- a text copied to the start of a buffer
+pub copied : (b t : List ℕ) → length b ≡ 2048 → pathAt (overwrite 0 t b) (length t) ≡ limited t
+unfolding addExtension
+copied b t w = go (leb (length t) 2048) refl
+  where
+    go : (u : Bool) → leb (length t) 2048 ≡ u → pathAt (overwrite 0 t b) (length t) ≡ limited t
+    go true h =
+        let z : 0 + length t ≡ length t = omega arith in
+        rw z at (put-fits b 0 t w (omega arith) (rw z (leb-true _ _ h))) ∙ rw (at-fits b 0 (omega arith))
+    go false h = at-long (overwrite 0 t b) (length t) (leb-false _ _ h) ∙ sym (limited-over t (leb-false _ _ h))
 
 -- an answer with a path
 pub path-put : (m : List ℕ) (q : Request) (path : List ℕ) (r : Answer) (c : Context) (o : Outcome) (t : List ℕ) → (r .context ≡ c) × (r .outcome ≡ o) × (pathAt path (r .len) ≡ limited t) → length t ≤ 2048 → answerOf m q path r ≡ resolved m c (outcomeIn (q .packageURL) (q .key) (q .matched) o t)

@@ -9,7 +9,7 @@ ghost use mathlib.Core.Bool.{_&&_, _||_};
 ghost use lib.Dec.{leb};
 ghost use Rattle.definition.specs.Text.{star, equal, endsWith, replace, overwrite};
 ghost use Rattle.definition.specs.Path.{limited};
-ghost use Rattle.path.specs.Meaning.{pathAt};
+ghost use Rattle.path.specs.Meaning.{pathAt, pathOf};
 ghost use Rattle.definition.specs.Exports.{PATTERN-KEY-COMPARE, isSubpathKey, starMatch, patternMatch, orOld, withQueryFragment, Request, target, targetPath, normalizeStringTarget, stringTarget};
 ghost use Rattle.definition.specs.Specifier.{parseSpecifier};
 ghost use Rattle.targets.specs.Keys.{rankOf, orderOf, matchOf};
@@ -216,22 +216,11 @@ pub fn part_text(m: &[u8], p: Part, w: &mut [u8]) -> usize
     part.len()
 }
 
-// The target with every star replaced by the pattern match, written to the bytes of a path. The answer is its length, one over 2,048 where it is
-// over-long.
-fn substitute(t: &[u8], pattern: &[u8], out: &mut [u8; 2048]) -> usize
-    ensures { λ r. ⌜ pathAt (now (out .exit)) r ≡ limited (replace star (now (pattern .entry)) (now (t .entry))) ⌝ }
+// The target with every star replaced by the pattern match.
+fn substitute(t: &[u8], pattern: &[u8]) -> PathBuf
+    ensures { λ r. ⌜ pathOf r ≡ limited (replace star (now (pattern .entry)) (now (t .entry))) ⌝ }
 {
-    let mut n = 0;
-    let mut at = 0;
-    loop {
-        let e = text::find(t, b'*', at);
-        n = path::append_at(out, n, &t[at..e]);
-        if e >= t.len() {
-            return n;
-        }
-        n = path::append_at(out, n, pattern);
-        at = e + 1;
-    }
+    PathBuf::new().append_replaced(t, pattern)
 }
 
 // How the resolution of a target ended. With the path that was found, or the target that a failure speaks of.
@@ -272,13 +261,14 @@ pub fn without_path(c: Context, outcome: Outcome) -> Answer
     }
 }
 
+// The text that goes with an outcome, copied to the lent buffer.
 fn with_path(c: Context, outcome: Outcome, t: &[u8], path: &mut [u8; 2048]) -> Answer
     ensures { λ r. ⌜ (r .context ≡ c) × (r .outcome ≡ outcome) × (pathAt (now (path .exit)) (r .len) ≡ limited (now (t .entry))) ⌝ }
 {
-    let len = path::append_at(path, 0, t);
+    text::copy_at(path, 0, t);
     Answer {
         context: c,
-        len,
+        len: t.len(),
         outcome,
     }
 }
@@ -293,22 +283,19 @@ fn target_path(url: &[u8], t: &[u8], c: Context, path: &mut [u8; 2048]) -> Answe
     if path::is_invalid_exports_target(t) {
         return with_path(c, Outcome::InvalidTarget, t, path);
     }
-    let len = path::normalize_with(url, t, path);
-    if len > 2048 {
+    let p = path::normalize_with(url, t);
+    let n = p.len;
+    if n > 2048 {
         return without_path(c, Outcome::OverLong);
     }
-    Answer {
-        context: c,
-        len,
-        outcome: Outcome::Found,
-    }
+    with_path(c, Outcome::Found, path::first(&p.bytes, n), path)
 }
 
 fn starred_target(url: &[u8], t: &[u8], pattern: &[u8], c: Context, path: &mut [u8; 2048]) -> Answer
     ensures { λ r. ⌜ ((m : List ℕ) (q : Request) → q .packageURL ≡ now (url .entry) → answerOf m q (now (path .exit)) r ≡ resolved m c (targetPath q (target (replace star (now (pattern .entry)) (now (t .entry)))))) ⌝ }
 {
-    let mut p = PathBuf::new();
-    let n = substitute(t, pattern, &mut p.bytes);
+    let p = substitute(t, pattern);
+    let n = p.len;
     if n > 2048 {
         return without_path(c, Outcome::OverLong);
     }
@@ -318,8 +305,8 @@ fn starred_target(url: &[u8], t: &[u8], pattern: &[u8], c: Context, path: &mut [
 fn folder_target(url: &[u8], t: &[u8], pattern: &[u8], c: Context, path: &mut [u8; 2048]) -> Answer
     ensures { λ r. ⌜ ((m : List ℕ) (q : Request) → q .packageURL ≡ now (url .entry) → answerOf m q (now (path .exit)) r ≡ resolved m c (targetPath q (target (now (t .entry) ++ now (pattern .entry))))) ⌝ }
 {
-    let mut p = PathBuf::new();
-    let n = path::add_extension(t, pattern, &mut p.bytes);
+    let p = path::add_extension(t, pattern);
+    let n = p.len;
     if n > 2048 {
         return without_path(c, Outcome::OverLong);
     }
@@ -404,8 +391,8 @@ pub fn text_target(
     );
     let t = path::first(s, start);
     if parsed.escaped {
-        let mut p = PathBuf::new();
-        let n = specifier::unescaped(t, &mut p.bytes);
+        let p = specifier::unescaped(t);
+        let n = p.len;
         return parsed_target(url, form, pattern, path::first(&p.bytes, n), context, path);
     }
     parsed_target(url, form, pattern, t, context, path)

@@ -1,3 +1,4 @@
+-- `append_at` is `put`: an array has its length.
 use borrow.Author.Needs.{needs}
 use Rattle.path.proofs.append_at.Statement.{statement}
 use Rattle.path.proofs.append_at.Tie as tie

@@ -1,6 +1,6 @@
+-- `normalize_below`: "./" in front of a subpath adds no part.
 use borrow.Author.Needs.{needs}
 use mathlib.Core.Path.{sym, _∙_}
-use Rattle.path.proofs.Steps.{put-first}
 use Rattle.path.proofs.Parts.{with-dot}
 use Rattle.path.proofs.normalize_below.Statement.{statement}
 use Rattle.path.proofs.normalize_below.Tie as tie
@@ -11,4 +11,4 @@ normalize-below-spec =
     (tie.spec
     (λ c κs. search needs)
     (λ c κs. search needs)
-    (λ c. c .push-parts .ensures ∙ rw (c .before .before .append-at .ensures ∙ put-first _ _) (sym (with-dot _ _))))
+    (λ c. c .push-all .ensures ∙ rw (c .before .from .ensures) (sym (with-dot _ _))))

@@ -11,8 +11,6 @@ use Rattle.definition.specs.Text.{if_then_else_, star, before, replace}
 use Rattle.laws.specs.SpecifierLaws.{before-take}
 use Rattle.definition.specs.Path.{Built, built, tooLong, andPath, limited, addExtension}
 use Rattle.laws.specs.PathLaws.{limited-append}
-use Rattle.path.specs.Meaning.{pathAt}
-use Rattle.path.proofs.Steps.{at-fits}
 
 -- a text with a star, and one without
 module _ (p : List ℕ) where
@@ -44,25 +42,22 @@ grow (built q) u v r =
     ∙ ap limited (append-assoc (q ++ u) v r ∙ append-assoc q u (v ++ r))
 grow tooLong u v r = refl
 
--- what stands in the buffer, and what is left of the target
-abbrev pub Filled : (p t : List ℕ) → Built → ℕ → Type 0
-Filled p t x at = andPath x (λ q. limited (q ++ replace star p (drop at t))) ≡ limited (replace star p t)
-
-pub fill-start : (p t out : List ℕ) → Filled p t (pathAt out 0) 0
-fill-start p t out = rw (at-fits out 0 (omega arith))
+-- from a path x₀, what stands in the buffer and what is left of the text
+abbrev pub Filled : (p t : List ℕ) → (x₀ x : Built) → ℕ → Type 0
+Filled p t x₀ x at = andPath x (λ q. limited (q ++ replace star p (drop at t))) ≡ andPath x₀ (λ q. limited (q ++ replace star p t))
 
 -- the text from `at` to the next star, which stands at e
-module _ (p t : List ℕ) (at e : ℕ) (h : e ≡ at + length (before star (drop at t))) (x y : Built) (k : y ≡ andPath x (λ q. addExtension q (take (e - at) (drop at t)))) (g : Filled p t x at) where
+module _ (p t : List ℕ) (at e : ℕ) (h : e ≡ at + length (before star (drop at t))) (x₀ x y : Built) (k : y ≡ andPath x (λ q. addExtension q (take (e - at) (drop at t)))) (g : Filled p t x₀ x at) where
   part : take (e - at) (drop at t) ≡ before star (drop at t)
   part = let d : e - at ≡ length (before star (drop at t)) = omega (arith, h) in rw d (sym (before-take star (drop at t)))
 
-  pub fill-last : length t ≤ e → y ≡ limited (replace star p t)
+  pub fill-last : length t ≤ e → y ≡ andPath x₀ (λ q. addExtension q (replace star p t))
   unfolding addExtension
   fill-last l =
       let r : replace star p (drop at t) ≡ take (e - at) (drop at t) = no-star p (drop at t) (omega (arith, h, length-drop at t)) ∙ sym part in
       k ∙ rw r at g
 
-  pub fill-more : e < length t → (z : Built) → z ≡ andPath y (λ q. addExtension q p) → Filled p t z (e + 1)
+  pub fill-more : e < length t → (z : Built) → z ≡ andPath y (λ q. addExtension q p) → Filled p t x₀ z (e + 1)
   fill-more l z f =
       let s = drop at t in
       let n : at + suc (length (before star s)) ≡ e + 1 = omega (arith, h) in

@@ -14,8 +14,8 @@ use Rattle.laws.specs.TextLaws.{and-true, startsWith-length}
 use Rattle.definition.specs.Path.{Built, built, tooLong, andPath, limited, addExtension}
 use Rattle.laws.specs.PathLaws.{limited-fits, limited-append}
 use Rattle.definition.specs.Specifier.{unescape}
 use Rattle.path.specs.Meaning.{pathAt}
-use Rattle.path.proofs.Steps.{at-fits, at-long, put-over, put-long}
+use Rattle.path.proofs.Steps.{at-fits, at-long, put-long}
 
 -- a text put behind the first n bytes of a buffer
 module _ (b : List ℕ) (n : ℕ) (t : List ℕ) (w : length b ≡ 2048) where
@@ -24,7 +24,7 @@ module _ (b : List ℕ) (n : ℕ) (t : List ℕ) (w : length b ≡ 2048) where
     where
       go : (u : Bool) → leb n 2048 ≡ u → pathAt b 2049 ≡ andPath (pathAt b n) (λ p. addExtension p t)
       go true e = put-long b n t w (leb-true _ _ e) h
-      go false e = put-over b n t w (leb-false _ _ e)
+      go false e = rw (at-long b n (leb-false _ _ e)) (at-long b 2049 (omega arith))
 
   pub put-text : (c : List ℕ) (m : ℕ) → m ≡ n + length t → m ≤ 2048 → take m c ≡ take n b ++ t → pathAt c m ≡ andPath (pathAt b n) (λ p. addExtension p t)
   unfolding addExtension
@@ -98,42 +98,46 @@ widened-some (b ∷ s) h = go (eqb b 0 && startsWith (text "#") s) refl (widened
         rw (escape-skipped b s e) (ih (omega arith))
     go false e ih = rw (byte-kept b s e) (omega (arith, utf8-some b, length-append (utf8 b) (widened s)))
 
-pub record Widening (s out : List ℕ) (n i : ℕ) : Type 0 where
-  pub same : andPath (pathAt out n) (λ p. limited (p ++ widened (drop i s))) ≡ limited (widened s)
+-- from a path x₀, what stands in the buffer and what is left of the text
+pub record Widening (s : List ℕ) (x₀ : Built) (out : List ℕ) (n i : ℕ) : Type 0 where
+  pub same : andPath (pathAt out n) (λ p. limited (p ++ widened (drop i s))) ≡ andPath x₀ (λ p. limited (p ++ widened s))
 
-pub widening-begin : (s out : List ℕ) → Widening s out 0 0
-widening-begin s out = record { same = rw (at-fits out 0 (omega arith)) }
+pub widening-begin : (s out : List ℕ) (n : ℕ) → Widening s (pathAt out n) out n 0
+widening-begin s out n = record { same = refl }
 
 grow : (x : Built) (u r : List ℕ) → andPath (andPath x (λ p. addExtension p u)) (λ p. limited (p ++ r)) ≡ andPath x (λ p. limited (p ++ (u ++ r)))
 unfolding addExtension
 grow (built p) u r = limited-append (p ++ u) r ∙ ap limited (append-assoc p u r)
 grow tooLong u r = refl
 
-module _ {s out : List ℕ} {n i : ℕ} (g : Widening s out n i) where
-  pub widening-end : length s ≤ i → pathAt out n ≡ limited (widened s)
-  unfolding unescape flatMap
+module _ {s : List ℕ} {x₀ : Built} {out : List ℕ} {n i : ℕ} (g : Widening s x₀ out n i) where
+  pub widening-end : length s ≤ i → pathAt out n ≡ andPath x₀ (λ p. addExtension p (widened s))
+  unfolding unescape flatMap addExtension
   widening-end h = go (leb n 2048) refl
     where
-      left : andPath (pathAt out n) (λ p. limited (p ++ [])) ≡ limited (widened s)
+      whole : Built
+      whole = andPath x₀ (λ p. limited (p ++ widened s))
+
+      left : andPath (pathAt out n) (λ p. limited (p ++ [])) ≡ whole
       left = rw (drop-of-length-le s h) at (g .same)
 
-      go : (u : Bool) → leb n 2048 ≡ u → pathAt out n ≡ limited (widened s)
+      go : (u : Bool) → leb n 2048 ≡ u → pathAt out n ≡ whole
       go true e =
           let k : n ≤ 2048 = leb-true _ _ e in
-          let f : limited (take n out ++ []) ≡ limited (widened s) = rw (at-fits out n k) at left in
+          let f : limited (take n out ++ []) ≡ whole = rw (at-fits out n k) at left in
           at-fits out n k ∙ sym (limited-fits (take n out) (omega (arith, length-take n out))) ∙ ap limited (sym (append-nil (take n out))) ∙ f
-      go false e = let k : 2048 < n = leb-false _ _ e in let f : tooLong ≡ limited (widened s) = rw (at-long out n k) at left in at-long out n k ∙ f
+      go false e = let k : 2048 < n = leb-false _ _ e in let f : tooLong ≡ whole = rw (at-long out n k) at left in at-long out n k ∙ f
 
   module _ (h : i < length s) where
     here : drop i s ≡ getD s i 0 ∷ drop (i + 1) s
     here = rw (add-one i) (drop-cons s i 0 h)
 
-    pub widening-skip : eqb (getD s i 0) 0 && startsWith (text "#") (drop (i + 1) s) ≡ true → Widening s out n (i + 1)
+    pub widening-skip : eqb (getD s i 0) 0 && startsWith (text "#") (drop (i + 1) s) ≡ true → Widening s x₀ out n (i + 1)
     widening-skip e =
         let f : widened (drop i s) ≡ widened (drop (i + 1) s) = rw here (escape-skipped (getD s i 0) (drop (i + 1) s) e) in
         record { same = rw f at (g .same) }
 
-    pub widening-on : eqb (getD s i 0) 0 && startsWith (text "#") (drop (i + 1) s) ≡ false → {c : List ℕ} {m : ℕ} → pathAt c m ≡ andPath (pathAt out n) (λ p. addExtension p (utf8 (getD s i 0))) → Widening s c m (i + 1)
+    pub widening-on : eqb (getD s i 0) 0 && startsWith (text "#") (drop (i + 1) s) ≡ false → {c : List ℕ} {m : ℕ} → pathAt c m ≡ andPath (pathAt out n) (λ p. addExtension p (utf8 (getD s i 0))) → Widening s x₀ c m (i + 1)
     widening-on e k =
         let f : widened (drop i s) ≡ utf8 (getD s i 0) ++ widened (drop (i + 1) s) = rw here (byte-kept (getD s i 0) (drop (i + 1) s) e) in
         record { same = rw (k, grow (pathAt out n) (utf8 (getD s i 0)) (widened (drop (i + 1) s)), ← f) (g .same) }

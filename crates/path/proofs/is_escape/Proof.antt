@@ -4,8 +4,8 @@ use native.Mathlib.Omega.{arith}
 use borrow.Author.Tests.{eq-eqb, ne-eqb}
 use Rattle.laws.specs.SpecifierLaws.{starts-at, starts-not, starts-end}
 use borrow.Author.Needs.{needs}
-use Rattle.specifier.proofs.is_escape.Statement.{statement}
-use Rattle.specifier.proofs.is_escape.Tie as tie
+use Rattle.path.proofs.is_escape.Statement.{statement}
+use Rattle.path.proofs.is_escape.Tie as tie
 
 pub is-escape-spec : {M : Type 1} → statement M
 is-escape-spec =
