@@ -67,9 +67,10 @@ loop-less c = search needs
 loop-again : tie.Need-loop-again Inv-loop μ-loop
 loop-again c =
     let loop = c .before .before .before .before .before .before .before .before .before .loop in
-    let better = c .before .before .before .better in
-    (better .kept .1 .1 .1 .1 .0 ∙ loop .inv .0,
-    λ ms h. best-on (loop .inv .1 ms h) (c .before .before .before .before .before .before .cursor .given .1) (c .next-member .result) (c .next-member .ensures) (better .result) (better .ensures))
+    let better = c .before .before .before .better in (
+      better .kept .1 .1 .1 .1 .0 ∙ loop .inv .0,
+      λ ms h. best-on (loop .inv .1 ms h) (c .before .before .before .before .before .before .cursor .given .1) (c .next-member .result) (c .next-member .ensures) (better .result) (better .ensures),
+    )
 
 -- src/lib.rt:145:1
 same-length-2 : tie.Need-same-length-2 Inv-loop μ-loop

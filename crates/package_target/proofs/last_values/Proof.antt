@@ -80,9 +80,10 @@ loop-again c =
     let loop = c .before .before .before .before .before .before .before .before .before .loop in
     let value = c .before .before .before .before .value-at in
     let index = c .before .before .before .condition-at in
-    let put = c .before .put-value in
-    (put-size (loop .values) (put .last .0) (index .result) (value .result) (put .ensures) (loop .inv .0),
-    λ d ms h. gather-on (loop .inv .1 d ms h) (c .before .before .before .before .before .before .cursor .given .1) (value .result) (value .ensures) (index .result) (index .ensures .1) _ (put .ensures) (loop .inv .0) (c .next-element .result) (c .next-element .ensures))
+    let put = c .before .put-value in (
+      put-size (loop .values) (put .last .0) (index .result) (value .result) (put .ensures) (loop .inv .0),
+      λ d ms h. gather-on (loop .inv .1 d ms h) (c .before .before .before .before .before .before .cursor .given .1) (value .result) (value .ensures) (index .result) (index .ensures .1) _ (put .ensures) (loop .inv .0) (c .next-element .result) (c .next-element .ensures),
+    )
 
 -- src/lib.rt:138:1
 returns-2 : tie.Need-returns-2 Inv-loop μ-loop
