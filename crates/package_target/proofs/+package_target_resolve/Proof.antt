@@ -255,7 +255,7 @@ pub +package-target-resolve-spec : {M : Type 1} → statement M
     let at-else4 = c .before .before .before in
     let at-enum-told5 = at-else4 .before in
     let at-kind-at = at-enum-told5 .before .before in
-    let at-start = at-kind-at .before .before .before .before .before .before in (
+    let start = at-kind-at .before .before .before .before .before .before .args in (
       refl,
       λ q j w a h. object-start (start .m .now) (start .depth) (start .at) q j (contextOf (start .m .now)
           (start .c)) h (at-else4 .if4 .left) (c .first-member .result) (sym (at-enum-told5 .enum-told5 .given .1)
