@@ -1,65 +1,67 @@
--- A missing path is not found; any other goes to the search by order.
-use mathlib.Core.Path.{sym}
-use native.Mathlib.Omega.{arith}
 use borrow.Author.Needs.{needs}
 use Rattle.listing.proofs.search_tables.Statement.{statement}
 use Rattle.listing.proofs.search_tables.Tie as tie
+use Rattle.listing.proofs.search_tables.Reads as reads
+use Rattle.listing.proofs.search_tables.Lts as lts
+use Rattle.listing.proofs.all_below.Reads as all-below-reads
+use Rattle.listing.proofs.first_equal.Reads as first-equal-reads
+use Rattle.listing.proofs.found_entry.Reads as found-entry-reads
 
--- at: if1 taken
+-- src/lib.rt:480:9
 returns : tie.Need-returns
 returns c = search needs
 
--- at: if1 left
+-- src/lib.rt:482:12
 mul-if2 : tie.Need-mul-if2
 mul-if2 c = search needs
 
--- at: if1 left
+-- src/lib.rt:482:8
 add-if2 : tie.Need-add-if2
 add-if2 c = search needs
 
--- at: if1 left → if2 taken
+-- src/lib.rt:483:9
 returns-2 : tie.Need-returns-2
 returns-2 c = search needs
 
--- at: if1 left → if2 left
-is-missing-requires : tie.Need-is-missing-requires
-is-missing-requires c κs =
-    record {
-      count = at-start .pre;
-      few = omega (arith, c .before .if1 .left);
-      tables = omega (arith, c .if2 .left);
-      index = omega arith;
-      small = omega arith;
-    }
-  where
-    at-start : tie.Start
-    at-start = c .before .before .before .before
+-- src/lib.rt:485:9
+first-equal-requires : tie.Need-first-equal-requires
+first-equal-requires c κs = ?
 
--- at: if1 left → if2 left → if3 taken
+-- src/lib.rt:487:28
+enum-told : tie.Need-enum-told
+enum-told c = search needs
+
+-- src/lib.rt:488:42
+enum-told-2 : tie.Need-enum-told-2
+enum-told-2 c = search needs
+
+-- src/lib.rt:489:20
+enum-known-sought : tie.Need-enum-known-sought
+enum-known-sought c = search needs
+
+-- src/lib.rt:492:16
+all-below-requires : tie.Need-all-below-requires
+all-below-requires c κs = ?
+
+-- src/lib.rt:493:38
+found-entry-requires : tie.Need-found-entry-requires
+found-entry-requires c κs = ?
+
+-- src/lib.rt:493:17
 returns-3 : tie.Need-returns-3
-returns-3 c = sym (c .before .is-missing .ensures (c .if3 .taken))
+returns-3 c = ?
 
--- at: if1 left → if2 left → if3 left
-search-unclamped-requires : tie.Need-search-unclamped-requires
-search-unclamped-requires c κs =
-    record {
-      count = at-start .pre;
-      few = omega (arith, at-if1-left .if1 .left);
-      tables = omega
-          (arith, c .before .before .if2 .left);
-      index = omega arith;
-      small = omega arith;
-    }
-  where
-    at-if1-left : tie.Else1
-    at-if1-left = c .before .before .before
-
-    at-start : tie.Start
-    at-start = at-if1-left .before .before .before
-
--- at: if1 left → if2 left → if3 left → search-unclamped
+-- src/lib.rt:475:1
 returns-4 : tie.Need-returns-4
-returns-4 c = c .search-unclamped .ensures
+returns-4 c = search needs
+
+-- src/lib.rt:475:1
+returns-5 : tie.Need-returns-5
+returns-5 c = ?
+
+-- src/lib.rt:475:1
+returns-6 : tie.Need-returns-6
+returns-6 c = ?
 
 pub search-tables-spec : {M : Type 1} → statement M
 search-tables-spec =
@@ -69,7 +71,13 @@ search-tables-spec =
     mul-if2
     add-if2
     returns-2
-    is-missing-requires
+    first-equal-requires
+    enum-told
+    enum-told-2
+    enum-known-sought
+    all-below-requires
+    found-entry-requires
     returns-3
-    search-unclamped-requires
-    returns-4)
+    returns-4
+    returns-5
+    returns-6)
