@@ -44,9 +44,12 @@ module _ (l : List ℕ) (at e : ℕ) (p : Text) (h : e ≤ length l) (u : at + 8
       go true q = absurd (f (omega (arith, same q (e - at - 8) (e - 8) (omega arith) (omega arith), same q (e - at - 8 + 4) (e - 8 + 4) (omega arith) (omega arith))))
 
 -- where entries begin, and that each ends before the next ones
-pub start-first : (l : List ℕ) (n : ℕ) → n ≡ entryCount l → 8 + 8 * n ≡ startOf l 0
+start-first : (l : List ℕ) (n : ℕ) → n ≡ entryCount l → 8 + 8 * n ≡ startOf l 0
 unfolding startOf
 start-first l n e = ap (λ (k : ℕ). 8 + 8 * k) e
+
+pub reached-first : (l : List ℕ) (n : ℕ) → n ≡ entryCount l → n ≤ 1024 → 8 + 8 * n ≤ length l → Reached l n 0 (8 + 8 * n)
+reached-first l n e f t = record { count = e; few = f; tables = t; index = omega arith; small = omega arith; place = start-first l n e }
 
 start-next : (l : List ℕ) (i : ℕ) → startOf l (i + 1) ≡ startOf l i + pathLengthAt l i + contentsLength (contentsMarkAt l i)
 unfolding startOf
@@ -161,6 +164,9 @@ module _ (l : List ℕ) (p : Text) (n i at k : ℕ) (r : Reached l n i at) (h : 
 -- every path before the j-th is below
 pub stop-at : (l : List ℕ) (p : Text) (n i at j : ℕ) → Reached l n i at → Stopping l p i at → i ≡ j → Stopping l p j (startOf l j)
 stop-at l p n i at j r s e = rw (← e, ← r .place) s
+
+pub stop-from : (l : List ℕ) (p : Text) (n i at : ℕ) → Reached l n i at → Stopping l p i (startOf l i) → Stopping l p i at
+stop-from l p n i at r s = rw (r .place) s
 
 -- the path that is sought lies within the bytes
 pub has-within : (l : List ℕ) (p : Text) (i : ℕ) → hasPath l p i ≡ true → startOf l i + pathLengthAt l i ≤ length l

@@ -1,67 +1,64 @@
+-- Where the first equal path has only paths below it before it, the search ends there; where one before it is not below, it finds nothing.
+use mathlib.Core.Path.{sym}
+use native.Mathlib.Omega.{arith}
+use Rattle.listing.proofs.Seek.{reached-first, stop-from, has-within}
 use borrow.Author.Needs.{needs}
 use Rattle.listing.proofs.search_tables.Statement.{statement}
 use Rattle.listing.proofs.search_tables.Tie as tie
-use Rattle.listing.proofs.search_tables.Reads as reads
-use Rattle.listing.proofs.search_tables.Lts as lts
-use Rattle.listing.proofs.all_below.Reads as all-below-reads
-use Rattle.listing.proofs.first_equal.Reads as first-equal-reads
-use Rattle.listing.proofs.found_entry.Reads as found-entry-reads
 
--- src/lib.rt:480:9
 returns : tie.Need-returns
 returns c = search needs
 
--- src/lib.rt:482:12
 mul-if2 : tie.Need-mul-if2
 mul-if2 c = search needs
 
--- src/lib.rt:482:8
 add-if2 : tie.Need-add-if2
 add-if2 c = search needs
 
--- src/lib.rt:483:9
 returns-2 : tie.Need-returns-2
 returns-2 c = search needs
 
--- src/lib.rt:485:9
 first-equal-requires : tie.Need-first-equal-requires
-first-equal-requires c κs = ?
+first-equal-requires c κs = reached-first (c .before .before .before .before .args .l .now) (c .before .before .before .before .args .n) (c .before .before .before .before .pre) (c .before .if1 .left) (c .if2 .left)
 
--- src/lib.rt:487:28
 enum-told : tie.Need-enum-told
 enum-told c = search needs
 
--- src/lib.rt:488:42
 enum-told-2 : tie.Need-enum-told-2
 enum-told-2 c = search needs
 
--- src/lib.rt:489:20
 enum-known-sought : tie.Need-enum-known-sought
 enum-known-sought c = search needs
 
--- src/lib.rt:492:16
 all-below-requires : tie.Need-all-below-requires
-all-below-requires c κs = ?
+all-below-requires c κs = 
+    let a = c .before .before .before .before .before .before .before .before .args in
+    let q = rw (c .before .sought .given .1) at (c .before .before .before .first-equal .ensures) in
+    (reached-first (a .l .now) (a .n) (c .before .before .before .before .before .before .before .before .pre) (c .before .before .before .before .before .if1 .left) (c .before .before .before .before .if2 .left), omega (arith, q .1), omega (arith, has-within (a .l .now) (a .path .now) _ (q .2)))
 
--- src/lib.rt:493:38
 found-entry-requires : tie.Need-found-entry-requires
-found-entry-requires c κs = ?
+found-entry-requires c κs = 
+    let a = c .before .before .before .before .before .before .before .before .before .before .args in
+    let q = rw (c .before .before .before .sought .given .1) at (c .before .before .before .before .before .first-equal .ensures) in
+    (q .0, q .1, omega (arith, q .0 .place, has-within (a .l .now) (a .path .now) _ (q .2)))
 
--- src/lib.rt:493:17
 returns-3 : tie.Need-returns-3
-returns-3 c = ?
+returns-3 c = 
+    let a = c .before .before .before .before .before .before .before .before .before .before .before .args in
+    let q = rw (c .before .before .before .before .sought .given .1) at (c .before .before .before .before .before .before .first-equal .ensures) in
+    c .found-entry .ensures (a .path .now) (stop-from (a .l .now) (a .path .now) (a .n) _ _ (q .0) (c .before .before .all-below .ensures .0 (c .before .if3 .taken))) (q .2)
 
--- src/lib.rt:475:1
 returns-4 : tie.Need-returns-4
 returns-4 c = search needs
 
--- src/lib.rt:475:1
 returns-5 : tie.Need-returns-5
-returns-5 c = ?
+returns-5 c = sym (rw (c .enum-told2 .given .1) at (c .before .before .first-equal .ensures))
 
--- src/lib.rt:475:1
 returns-6 : tie.Need-returns-6
-returns-6 c = ?
+returns-6 c = 
+    let a = c .before .before .before .before .before .before .before .before .before .before .args in
+    let q = rw (c .before .before .before .sought .given .1) at (c .before .before .before .before .before .first-equal .ensures) in
+    c .before .all-below .ensures .1 (c .if3 .left) (q .3)
 
 pub search-tables-spec : {M : Type 1} → statement M
 search-tables-spec =
