@@ -71,7 +71,7 @@ none-missing l p zero t h s = missing-start l p (entryCount l) refl t
 none-missing l p (suc i) t h s =
     let m : Missing l p i (startOf l i) = none-missing l p i t (omega arith) (λ j u. s j (omega arith)) in
     let x : Missing l p (i + 1) (startOf l i + pathLengthAt l i + contentsLength (contentsMarkAt l i)) =
-        missing-other l p i (startOf l i) (startOf l i + pathLengthAt l i) (omega arith) refl m _ (s i (omega arith)) refl in
+    missing-other l p i (startOf l i) (startOf l i + pathLengthAt l i) (omega arith) refl m _ (s i (omega arith)) refl in
     rw add-one at x
 
 module _ (l : List ℕ) (p : Text) (n i at : ℕ) (r : Reached l n i at) (s : NoneBefore l p i) where

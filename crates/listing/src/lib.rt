@@ -297,7 +297,11 @@ fn first_equal(l: &[u8], n: usize, path: &[u8]) -> Sought
             }
         }
     }
-    if at <= l.len() { Sought::Nowhere } else { Sought::Unknown }
+    if at <= l.len() {
+        Sought::Nowhere
+    } else {
+        Sought::Unknown
+    }
 }
 
 fn high(a: u8, b: u8, c: u8, d: u8) -> usize

@@ -34,7 +34,7 @@ pass-below-requires : tie.Need-pass-below-requires Inv-loop μ-loop
 pass-below-requires c κs = (c .before .loop .inv .0, c .before .loop .inv .1, c .before .before .before .before .before .pre .1, c .before .before .words-of .ensures .1)
 
 returns : tie.Need-returns Inv-loop μ-loop
-returns c = 
+returns c =
     let a = c .before .before .before .before .before .before .before .args in
     let p = c .before .pass-below in
     (λ e. stop-at (a .l .now) (a .path .now) (a .n) (p .result .index) (p .result .at) (a .to) (p .ensures .0) (p .ensures .3 (a .path .now) (c .before .before .before .before .words-of .ensures .0) (c .before .before .before .loop .inv .2)) (omega (arith, p .ensures .2, c .if1 .taken)), λ e. absurd (true≢false e))
@@ -58,7 +58,7 @@ part-is-below-start : tie.Need-part-is-below-start Inv-loop μ-loop
 part-is-below-start c = search needs
 
 part-is-below-end : tie.Need-part-is-below-end Inv-loop μ-loop
-part-is-below-end c = 
+part-is-below-end c =
     let a = c .before .before .before .before .before .before .before .before .args in
     let p = c .before .before .pass-below in
     let k = c .number-at in
@@ -69,7 +69,7 @@ is-below-requires : tie.Need-is-below-requires Inv-loop μ-loop
 is-below-requires c κs = search needs
 
 returns-2 : tie.Need-returns-2 Inv-loop μ-loop
-returns-2 c = 
+returns-2 c =
     let a = c .before .before .before .before .before .before .before .before .before .before .before .args in
     let p = c .before .before .before .before .before .pass-below in
     let k = c .before .before .before .number-at in
@@ -104,7 +104,7 @@ loop-less : tie.Need-loop-less Inv-loop μ-loop
 loop-less c = omega (arith, c .before .before .before .before .before .before .before .pass-below .ensures .1, c .before .before .before .before .before .before .if1 .left, c .before .before .before .before .before .before .before .before .loop-test .taken)
 
 loop-again : tie.Need-loop-again Inv-loop μ-loop
-loop-again c = 
+loop-again c =
     let a = c .before .before .before .before .before .before .before .before .before .before .before .before .before .args in
     let p = c .before .before .before .before .before .before .before .pass-below in
     let k = c .before .before .before .before .before .number-at in
@@ -114,7 +114,7 @@ loop-again c =
     (reached-next (a .l .now) (a .path .now) (a .n) (p .result .index) (p .result .at) (k .result) (p .ensures .0) h (k .ensures .0) (m .result) (m .ensures .0) (x .ensures) (k .ensures .1) (m .ensures .1), omega (arith, c .before .before .before .before .before .before .if1 .left), below-next (a .l .now) (a .path .now) (a .n) (p .result .index) (p .result .at) (k .result) (p .ensures .0) h (k .ensures .0) (m .result) (m .ensures .0) (sym (c .before .before .before .is-below .ensures) ∙ not-false _ (c .before .before .if2 .left)) (x .ensures .0) (p .ensures .3 (a .path .now) (c .before .before .before .before .before .before .before .before .before .before .words-of .ensures .0) (c .before .before .before .before .before .before .before .before .before .loop .inv .2)))
 
 returns-3 : tie.Need-returns-3 Inv-loop μ-loop
-returns-3 c = 
+returns-3 c =
     let a = c .before .before .before .before .before .args in
     let o = c .before .loop in
     (λ e. stop-at (a .l .now) (a .path .now) (a .n) (o .i) (o .at) (a .to) (o .inv .0) (o .inv .2) (omega (arith, o .inv .1, c .loop-test .left)), λ e. absurd (true≢false e))

@@ -36,7 +36,7 @@ pass-others-requires : tie.Need-pass-others-requires Inv-loop μ-loop
 pass-others-requires c κs = search needs
 
 returns : tie.Need-returns Inv-loop μ-loop
-returns c = 
+returns c =
     let p = c .before .pass-others .ensures in
     (p .0, omega (arith, c .if1 .taken, c .before .before .least .ensures), p .3 (c .if1 .taken), p .2 (c .before .before .before .before .loop .inv .1))
 
@@ -59,7 +59,7 @@ loop-again-2 : tie.Need-loop-again-2 Inv-loop μ-loop
 loop-again-2 c = let p = c .before .before .pass-others .ensures in (p .0, p .2 (c .before .before .before .before .before .loop .inv .1))
 
 returns-3 : tie.Need-returns-3 Inv-loop μ-loop
-returns-3 c = 
+returns-3 c =
     let a = c .before .before .before .before .before .args in
     let o = c .before .before .loop in
     none-at-all (a .l .now) (a .path .now) (a .n) (o .i) (o .at) (o .inv .0) (o .inv .1) (c .if4 .taken) (omega (arith, c .before .loop-test .left))

@@ -32,7 +32,7 @@ number-at-requires-2 : tie.Need-number-at-requires-2
 number-at-requires-2 c κs = search needs
 
 returns : tie.Need-returns
-returns c = 
+returns c =
     let s = c .before .before .before .before in
     let a = s .args in
     let k = c .before .before .number-at in
@@ -40,14 +40,14 @@ returns c =
     λ q u t. stop-directory (a .l .now) q (a .n) (a .i) (a .at) (k .result) (s .pre .0) (s .pre .1) (k .ensures .0) (m .result) (m .ensures .0) (within-here (a .l .now) (a .l .now) (a .n) (a .i) (a .at) (k .result) (s .pre .0) (s .pre .1) (k .ensures .0) (s .pre .2)) u t (c .if1 .taken)
 
 reach-requires : tie.Need-reach-requires
-reach-requires c κs = 
+reach-requires c κs =
     let s = c .before .before .before .before in
     let a = s .args in
     let k = c .before .before .number-at in
     (within-here (a .l .now) (a .l .now) (a .n) (a .i) (a .at) (k .result) (s .pre .0) (s .pre .1) (k .ensures .0) (s .pre .2))
 
 returns-2 : tie.Need-returns-2
-returns-2 c = 
+returns-2 c =
     let s = c .before .before .before .before .before in
     let a = s .args in
     let k = c .before .before .before .number-at in

@@ -155,7 +155,8 @@ add-at c =
       arith,
       at-loop .loop .inv .0 .few,
       at-loop .loop .inv .0 .small,
-      in-loop .loop-test .taken, at-start .pre .2,
+      in-loop .loop-test .taken,
+      at-start .pre .2,
       c .before .number-at .ensures .1,
     )
   where
@@ -179,7 +180,8 @@ add-at-2 c =
       arith,
       at-loop .loop .inv .0 .few,
       at-loop .loop .inv .0 .small,
-      in-loop .loop-test .taken, at-start .pre .2,
+      in-loop .loop-test .taken,
+      at-start .pre .2,
       c .before .before .number-at .ensures .1,
       c .before .number-at2 .ensures .1,
       c .contents-length .ensures .1,

@@ -31,19 +31,19 @@ enum-known-sought : tie.Need-enum-known-sought
 enum-known-sought c = search needs
 
 all-below-requires : tie.Need-all-below-requires
-all-below-requires c κs = 
+all-below-requires c κs =
     let a = c .before .before .before .before .before .before .before .before .args in
     let q = rw (c .before .sought .given .1) at (c .before .before .before .first-equal .ensures) in
     (reached-first (a .l .now) (a .n) (c .before .before .before .before .before .before .before .before .pre) (c .before .before .before .before .before .if1 .left) (c .before .before .before .before .if2 .left), omega (arith, q .1), omega (arith, has-within (a .l .now) (a .path .now) _ (q .2)))
 
 found-entry-requires : tie.Need-found-entry-requires
-found-entry-requires c κs = 
+found-entry-requires c κs =
     let a = c .before .before .before .before .before .before .before .before .before .before .args in
     let q = rw (c .before .before .before .sought .given .1) at (c .before .before .before .before .before .first-equal .ensures) in
     (q .0, q .1, omega (arith, q .0 .place, has-within (a .l .now) (a .path .now) _ (q .2)))
 
 returns-3 : tie.Need-returns-3
-returns-3 c = 
+returns-3 c =
     let a = c .before .before .before .before .before .before .before .before .before .before .before .args in
     let q = rw (c .before .before .before .before .sought .given .1) at (c .before .before .before .before .before .before .first-equal .ensures) in
     c .found-entry .ensures (a .path .now) (stop-from (a .l .now) (a .path .now) (a .n) _ _ (q .0) (c .before .before .all-below .ensures .0 (c .before .if3 .taken))) (q .2)
@@ -55,7 +55,7 @@ returns-5 : tie.Need-returns-5
 returns-5 c = sym (rw (c .enum-told2 .given .1) at (c .before .before .first-equal .ensures))
 
 returns-6 : tie.Need-returns-6
-returns-6 c = 
+returns-6 c =
     let a = c .before .before .before .before .before .before .before .before .before .before .args in
     let q = rw (c .before .before .before .sought .given .1) at (c .before .before .before .before .before .first-equal .ensures) in
     c .before .all-below .ensures .1 (c .if3 .left) (q .3)

@@ -33,23 +33,23 @@ eight-or-zero-requires-4 c κs = search needs
 
 returns : tie.Need-returns
 returns c = (
-      record {
-        bytes = λ i. omega (arith, c .before .before .before .before .before .before .before .before .before .shared-slice-known .given i);
-        isStart = c .before .before .before .before .before .low-or-zero .ensures;
-        isNext = c .before .before .before .before .low-or-zero2 .ensures;
-        first = c .before .before .before .eight-or-zero .ensures;
-        second = c .before .before .eight-or-zero2 .ensures;
-        third = c .before .eight-or-zero3 .ensures;
-        fourth = c .eight-or-zero4 .ensures;
-      },
-      record {
-        low8 = omega (arith, c .before .before .before .before .before .before .before .before .window .ensures, c .before .before .before .before .before .before .before .window2 .ensures, c .before .before .before .before .before .before .window3 .ensures);
-        high16 = omega (arith, c .before .before .before .before .before .before .before .before .window .ensures, c .before .before .before .before .before .before .before .window2 .ensures, c .before .before .before .before .before .before .window3 .ensures);
-        low16 = omega (arith, c .before .before .before .before .before .before .before .before .window .ensures, c .before .before .before .before .before .before .before .window2 .ensures, c .before .before .before .before .before .before .window3 .ensures);
-        high24 = omega (arith, c .before .before .before .before .before .before .before .before .window .ensures, c .before .before .before .before .before .before .before .window2 .ensures, c .before .before .before .before .before .before .window3 .ensures);
-        low24 = omega (arith, c .before .before .before .before .before .before .before .before .window .ensures, c .before .before .before .before .before .before .before .window2 .ensures, c .before .before .before .before .before .before .window3 .ensures);
-      },
-    )
+  record {
+    bytes = λ i. omega (arith, c .before .before .before .before .before .before .before .before .before .shared-slice-known .given i);
+    isStart = c .before .before .before .before .before .low-or-zero .ensures;
+    isNext = c .before .before .before .before .low-or-zero2 .ensures;
+    first = c .before .before .before .eight-or-zero .ensures;
+    second = c .before .before .eight-or-zero2 .ensures;
+    third = c .before .eight-or-zero3 .ensures;
+    fourth = c .eight-or-zero4 .ensures;
+  },
+  record {
+    low8 = omega (arith, c .before .before .before .before .before .before .before .before .window .ensures, c .before .before .before .before .before .before .before .window2 .ensures, c .before .before .before .before .before .before .window3 .ensures);
+    high16 = omega (arith, c .before .before .before .before .before .before .before .before .window .ensures, c .before .before .before .before .before .before .before .window2 .ensures, c .before .before .before .before .before .before .window3 .ensures);
+    low16 = omega (arith, c .before .before .before .before .before .before .before .before .window .ensures, c .before .before .before .before .before .before .before .window2 .ensures, c .before .before .before .before .before .before .window3 .ensures);
+    high24 = omega (arith, c .before .before .before .before .before .before .before .before .window .ensures, c .before .before .before .before .before .before .before .window2 .ensures, c .before .before .before .before .before .before .window3 .ensures);
+    low24 = omega (arith, c .before .before .before .before .before .before .before .before .window .ensures, c .before .before .before .before .before .before .before .window2 .ensures, c .before .before .before .before .before .before .window3 .ensures);
+  },
+)
 
 pub words-of-spec : {M : Type 1} → statement M
 words-of-spec =
