@@ -1,4 +1,5 @@
--- The first word that differs decides. Windows overlap, which changes nothing: what is shared is equal. Nothing is below the word of a window that does not fit.
+-- The first word that differs decides. Windows overlap, which changes nothing: what is shared is equal. Nothing is below the word
+-- of a window that does not fit.
 use mathlib.Core.Path.{sym, _∙_}
 use native.Mathlib.Omega.{arith}
 use borrow.Author.Tests.{ltb-true}
@@ -18,7 +19,8 @@ eight-requires c κs = search needs
 returns : tie.Need-returns
 returns c =
     λ e q o. let s = at-start in
-    by-first (s .args .p .now) q (s .args .w) o (s .pre .1) (s .pre .0) (λ n. omega (arith, at-shared-slice-known .shared-slice-known .given n))
+    by-first (s .args .p .now) q (s .args .w) o (s .pre .1) (s .pre .0)
+    (λ n. omega (arith, at-shared-slice-known .shared-slice-known .given n))
     (omega (arith, c .before .eight .ensures, ltb-true (c .before .eight .result) (s .args .w .first) e))
   where
     at-shared-slice-known : tie.After-shared-slice-known
@@ -63,7 +65,8 @@ eight-requires-3 c κs = search needs
 returns-3 : tie.Need-returns-3
 returns-3 c =
     λ e q o. let s = at-start in
-    by-third (s .args .p .now) q (s .args .w) o (s .pre .1) (s .pre .0) (λ n. omega (arith, at-shared-slice-known .shared-slice-known .given n))
+    by-third (s .args .p .now) q (s .args .w) o (s .pre .1) (s .pre .0)
+    (λ n. omega (arith, at-shared-slice-known .shared-slice-known .given n))
     (sym (at-low .low .ensures) ∙ at-if1-left .if1 .left)
     (sym (at-low2 .low2 .ensures) ∙ at-if2-left .if2 .left)
     (omega (arith, at-eight3 .eight3 .ensures, ltb-true (at-eight3 .eight3 .result) (s .args .w .third) e))

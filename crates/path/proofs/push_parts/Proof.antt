@@ -30,14 +30,16 @@ last c =
     let at-loop : tie.At-loop Inv-loop μ-loop = at-find .before in
     let l = at-loop in
     let s = l .before .before in
-    pushing-last (s .args .stays) _ (pathAt (l .loop .b) (l .loop .n)) _ _ _ _ (at-find .find .ensures) (l .loop .inv .0) (c .before .push-part .ensures) (l .loop .inv .1) (c .if1 .taken) (s .pre)
+    pushing-last (s .args .stays) _ (pathAt (l .loop .b) (l .loop .n)) _ _ _ _ (at-find .find .ensures) (l .loop .inv .0)
+    (c .before .push-part .ensures) (l .loop .inv .1) (c .if1 .taken) (s .pre)
 
 -- at: loop → if1 left
 again : tie.Need-loop-again Inv-loop μ-loop
 again c =
     let l = at-loop in (
       omega arith,
-      pushing-more (l .before .before .args .stays) _ (pathAt (l .loop .b) (l .loop .n)) _ _ _ _ (at-find .find .ensures) (l .loop .inv .0) (c .before .push-part .ensures) (l .loop .inv .1) (c .if1 .left),
+      pushing-more (l .before .before .args .stays) _ (pathAt (l .loop .b) (l .loop .n)) _ _ _ _ (at-find .find .ensures)
+          (l .loop .inv .0) (c .before .push-part .ensures) (l .loop .inv .1) (c .if1 .left),
     )
   where
     at-find : tie.After-find Inv-loop μ-loop
