@@ -2,7 +2,9 @@
 //! on purpose, at limits and past them. Case N of a seed is always the same.
 
 use crate::broken;
-use crate::lent::{EXPORTS_FIELDS, EXTENSIONS, MOST, Row, Settings, Tree, is_path, is_specifier, lay, lay_settings, name_of, parent, rows};
+use crate::lent::{
+    EXPORTS_FIELDS, EXTENSIONS, IMPORTS_FIELDS, MOST, Row, Settings, Tree, is_path, is_specifier, lay, lay_settings, name_of, parent, rows,
+};
 use crate::manifests::{Around, SOME_REPEATS, damaged};
 use crate::model;
 use crate::product::Question;
@@ -240,7 +242,7 @@ fn texts(from: &[&str], count: usize, rng: &mut Rng) -> Vec<Vec<u8>> {
 }
 
 pub fn example_settings() -> Settings {
-    ["import", ".js", "main", "index", "exports"].map(|text| vec![text.as_bytes().to_vec()])
+    ["import", ".js", "main", "index", "exports", "imports"].map(|text| vec![text.as_bytes().to_vec()])
 }
 
 pub fn settings(rng: &mut Rng) -> Settings {
@@ -255,7 +257,7 @@ pub fn settings(rng: &mut Rng) -> Settings {
         &["exports", "x", "main", "exportsé"],
     ];
     let mut made: Settings = Default::default();
-    for kind in 0..5 {
+    for kind in 0..IMPORTS_FIELDS {
         let most = if rng.chance(10) { MOST[kind] } else { MOST[kind].min(3) };
         let count = if rng.chance(8) { 0 } else { rng.within(1, most) };
         made[kind] = texts(pools[kind], count, rng);
@@ -263,6 +265,7 @@ pub fn settings(rng: &mut Rng) -> Settings {
     if made[EXTENSIONS].is_empty() && rng.chance(80) {
         made[EXTENSIONS].push(b".js".to_vec());
     }
+    made[IMPORTS_FIELDS] = texts(&["imports", "imports", "x", "exports", "é", "main", "name", "#"], 1, &mut rng.beside(0x696d_706f));
     made
 }
 

@@ -30,7 +30,7 @@ fn whole(folder: &Path, at: &[u8], tree: &mut Tree) -> io::Result<()> {
 
 /// As Node's `require` looks.
 fn settings() -> Settings {
-    [&["node", "require"][..], &[".js", ".json", ".node"], &["main"], &["index"], &["exports"]]
+    [&["node", "require"][..], &[".js", ".json", ".node"], &["main"], &["index"], &["exports"], &["imports"]]
         .map(|texts| texts.iter().map(|text| text.as_bytes().to_vec()).collect())
 }
 
