@@ -2,7 +2,8 @@
 
 use crate::cases::{Case, Room, SUBPATHS, World, bare_world, example_settings, grown};
 use crate::lent::{
-    EXPORTS_FIELDS, EXTENSIONS, IMPORTS_FIELDS, KINDS, MAIN_FIELDS, MAIN_FILES, MOST, Row, Settings, Tree, lay, lay_settings, name_of, rows,
+    EXPORTS_FIELDS, EXTENSIONS, HASH_NAMES, IMPORTS_FIELDS, KINDS, MAIN_FIELDS, MAIN_FILES, MOST, Row, Settings, Tree, lay, lay_settings,
+    name_of, rows,
 };
 use crate::manifests::{PLAIN, Style, Value, object, text, write};
 use crate::rng::Rng;
@@ -149,9 +150,11 @@ fn five_counts() -> Vec<u8> {
 }
 
 fn not_bare(specifier: &[u8], rng: &mut Rng) -> Vec<u8> {
-    let prefix: &[&[u8]] = &[b"/", b"#", b"./", b"../", b"//"];
+    // "#" stands for a name that is refused only where the product does not take these.
+    let hash: &[u8] = if HASH_NAMES { b"/#" } else { b"#" };
+    let prefix: &[&[u8]] = &[b"/", hash, b"./", b"../", b"//"];
     match rng.below(6) {
-        0 => rng.one(&[&b""[..], b".", b"..", b"/", b"#", b"./", b"../", b"//"]).to_vec(),
+        0 => rng.one(&[&b""[..], b".", b"..", b"/", hash, b"./", b"../", b"//"]).to_vec(),
         1 => [rng.one(prefix), specifier].concat(),
         2 => {
             let mut long = specifier.to_vec();
@@ -413,7 +416,7 @@ fn long_path(rng: &mut Rng) -> Case {
 }
 
 /// A relative path of exactly this length, in components of mixed lengths.
-fn named(length: usize, rng: &mut Rng) -> Vec<u8> {
+pub fn named(length: usize, rng: &mut Rng) -> Vec<u8> {
     let mut made = Vec::new();
     while made.len() < length {
         let left = length - made.len();

@@ -2,8 +2,10 @@
 //! on purpose, at limits and past them. Case N of a seed is always the same.
 
 use crate::broken;
+use crate::hash;
 use crate::lent::{
-    EXPORTS_FIELDS, EXTENSIONS, IMPORTS_FIELDS, MOST, Row, Settings, Tree, is_path, is_specifier, lay, lay_settings, name_of, parent, rows,
+    EXPORTS_FIELDS, EXTENSIONS, HASH_NAMES, IMPORTS_FIELDS, MOST, Row, Settings, Tree, is_path, is_specifier, lay, lay_settings, name_of,
+    parent, rows,
 };
 use crate::manifests::{Around, SOME_REPEATS, damaged};
 use crate::model;
@@ -119,8 +121,11 @@ impl World {
     }
 }
 
-/// Case `number` of `seed`.
+/// Case `number` of `seed`. Where the product takes names that begin with "#", every fourth case is of one.
 pub fn case(seed: u64, number: u64) -> Case {
+    if HASH_NAMES && number % 4 == 3 {
+        return hash::case(seed, number);
+    }
     let rng = &mut Rng::new(seed, number);
     match rng.below(100) {
         0..=44 => with_room(&grown(rng), rng),
@@ -161,7 +166,7 @@ fn limit(needed: usize, rng: &mut Rng) -> u32 {
 }
 
 /// The case with buffers longer than needed, just long enough, or short, and within a limit of consults.
-fn with_room(world: &World, rng: &mut Rng) -> Case {
+pub fn with_room(world: &World, rng: &mut Rng) -> Case {
     let mut case = world.case();
     let short = if rng.chance(50) { 1 } else { rng.within(1, 400) };
     (case.room, case.stated) = match rng.below(40) {
@@ -234,7 +239,7 @@ pub fn specifier(rng: &mut Rng) -> Vec<u8> {
         8 => [rng.text(PACKAGES), rng.text(SUBPATHS), rng.text(SUBPATHS)].concat(),
         _ => (0..rng.within(1, 9)).flat_map(|_| rng.text(PIECES).to_vec()).collect(),
     };
-    if is_specifier(&made) { made } else { b"mat/steel".to_vec() }
+    if is_specifier(&made, false) { made } else { b"mat/steel".to_vec() }
 }
 
 fn texts(from: &[&str], count: usize, rng: &mut Rng) -> Vec<Vec<u8>> {

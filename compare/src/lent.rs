@@ -158,9 +158,16 @@ pub fn read_settings(settings: &[u8]) -> Option<Settings> {
     rest.is_empty().then_some(read)
 }
 
-/// A bare specifier within its limit; any other is refused as 22.
-pub fn is_specifier(specifier: &[u8]) -> bool {
+/// Whether the product takes names that begin with "#"; where it does not, it refuses them as 22, and only `compare hash` makes them.
+pub const HASH_NAMES: bool = false;
+
+pub fn is_hash(specifier: &[u8]) -> bool {
+    specifier.starts_with(b"#")
+}
+
+/// A bare specifier within its limit, or one that begins with "#" where these are taken; any other is refused as 22.
+pub fn is_specifier(specifier: &[u8], hash_names: bool) -> bool {
     let first = specifier.split(|&b| b == b'/').next().unwrap_or(b"");
-    let bare = !matches!(first, b"" | b"." | b"..") && first[0] != b'#';
-    bare && specifier.len() <= 512 && !specifier.contains(&0) && is_utf8(specifier)
+    let named = !matches!(first, b"" | b"." | b"..") && (hash_names || !is_hash(specifier));
+    named && specifier.len() <= 512 && !specifier.contains(&0) && is_utf8(specifier)
 }

@@ -4,7 +4,9 @@
 use crate::broken;
 use crate::cases::{self, Case, GATEWAY, Room};
 use crate::expected::{self, Expected};
-use crate::lent::{read_listing, read_settings, word};
+use crate::hash;
+use crate::lent::{HASH_NAMES, read_listing, read_settings, word};
+use crate::model::is_answer;
 use crate::points::{self, Point};
 use crate::product::{self, Left, Rooms};
 use crate::rng::Rng;
@@ -63,7 +65,7 @@ fn packed_list(expected: &Expected) -> Vec<u8> {
 impl Chosen {
     /// Whether the case adds to a count that is still low.
     fn wants(&self, want: &Left, expected: &Expected) -> bool {
-        let least = if want.number < 8 { OF_ANSWER } else { OF_REFUSAL };
+        let least = if is_answer(want.number) { OF_ANSWER } else { OF_REFUSAL };
         let number = self.numbers.get(&want.number).copied().unwrap_or(0) < least;
         let least = |point: usize| if point >= Point::Repeated as usize { OF_REPEAT } else { OF_POINT };
         let mut reached = expected.marks.iter().flatten().zip(&self.marks).enumerate();
@@ -87,7 +89,7 @@ impl Chosen {
         body.extend_from_slice(&case.start);
         body.extend_from_slice(&case.specifier);
         let mut list = Vec::new();
-        if want.number < 8 {
+        if is_answer(want.number) {
             body.extend(expected.end.texts.iter().flatten());
             list = packed_list(expected);
         }
@@ -117,7 +119,9 @@ impl Chosen {
             Fit::Wanted => (small || few) && self.wants(&want, &expected),
             Fit::Small => small && (want.number != 1 || expected.list.len() < 10),
         };
-        if !kept || !self.known.insert(crate::hash(case)) {
+        // The program that replays them lends no more.
+        let fits = rooms.result <= 4_096 && rooms.numbers <= 512 && rooms.list <= 4_096;
+        if !kept || !fits || !self.known.insert(crate::fingerprint(case)) {
             return Ok(false);
         }
         self.keep(case, &expected, rooms, &want);
@@ -152,7 +156,8 @@ fn limits(seed: u64) -> impl Iterator<Item = Case> {
 
 fn choose(seed: u64) -> Result<Chosen, String> {
     let mut chosen = Chosen { marks: points::no_marks(), ..Chosen::default() };
-    let kept = broken::fixed().into_iter().chain(limits(seed));
+    let hash = if HASH_NAMES { hash::fixed() } else { Vec::new() };
+    let kept = broken::fixed().into_iter().chain(limits(seed)).chain(hash);
     for case in kept {
         chosen.offer(&case, Fit::Always)?;
     }
@@ -242,7 +247,7 @@ impl<'a> Reader<'a> {
             left.numbers[2 + count + i] = u32::from(head[0]);
             (before, at, packed) = (at, at + short(1) + more.len(), rest);
         }
-        if left.number < 8 {
+        if is_answer(left.number) {
             left.numbers[..2].copy_from_slice(&[count as u32, at as u32]);
         }
         packed.is_empty().then_some(())
