@@ -3,8 +3,10 @@
 
 use crate::broken;
 use crate::cases::{Case, World, example_settings, settings, with_room};
-use crate::lent::{CONDITIONS, EXPORTS_FIELDS, IMPORTS_FIELDS, Tree, name_of, parent};
-use crate::manifests::{Around, SOME_REPEATS, Value, boundary, damaged, folder, object, scalar, style, text, without_repeats, write};
+use crate::lent::{CONDITIONS, EXPORTS_FIELDS, EXTENSIONS, IMPORTS_FIELDS, Tree, name_of, parent};
+use crate::manifests::{
+    Around, PLAIN, SOME_REPEATS, Value, boundary, damaged, folder, object, scalar, style, text, without_repeats, write,
+};
 use crate::model::Consult;
 use crate::rng::Rng;
 
@@ -338,7 +340,7 @@ fn many_steps(rng: &mut Rng) -> World {
     }
     let imports = object(vec![("#x", Value::Array(targets))]);
     let field = String::from_utf8_lossy(&world.settings[IMPORTS_FIELDS][0]).into_owned();
-    let manifest = write(&object(vec![(&field, imports)]), crate::manifests::PLAIN, rng);
+    let manifest = write(&object(vec![(&field, imports)]), PLAIN, rng);
     world.add(&below(&scope, b"package.json"), Some(manifest));
     let home = below(&below(&scope, b"node_modules"), b"b");
     world.add(&home, None);
@@ -368,7 +370,7 @@ fn long(rng: &mut Rng) -> World {
     };
     let target = if rng.chance(30) { Value::Array(vec![text(&target), text("./x.js")]) } else { text(&target) };
     let field = String::from_utf8_lossy(&world.settings[IMPORTS_FIELDS][0]).into_owned();
-    let manifest = write(&object(vec![(&field, object(vec![("#*", target)]))]), crate::manifests::PLAIN, rng);
+    let manifest = write(&object(vec![(&field, object(vec![("#*", target)]))]), PLAIN, rng);
     world.add(&below(&scope, b"package.json"), Some(manifest));
     world.add(&below(&scope, b"node_modules/b"), None);
     world
@@ -473,14 +475,31 @@ const EXAMPLES: &[Example] = &[
     (r##"{"#x":""}"##, &[], "#x", "2 "),
 ];
 
-/// One string as a target, `count` of another that takes a relative step in vain, and the same after them.
+/// So many relative steps in vain, by few consults, and then one that finds a file.
 fn steps(count: usize) -> World {
-    let mut targets = vec![Value::Array(vec![text("b/n"); count % 100])];
-    targets.extend((0..count / 100).map(|_| Value::Array(vec![text("b/n"); 100])));
+    let mut targets = vec![Value::Array(vec![text("b/n/"); count % 100])];
+    targets.extend((0..count / 100).map(|_| Value::Array(vec![text("b/n/"); 100])));
     targets.push(text("b/x.js"));
     let imports = Value::Array(targets);
-    let manifest = write(&object(vec![("imports", object(vec![("#x", imports)]))]), crate::manifests::PLAIN, &mut Rng::new(0, 0));
-    world(&manifest, &[("/p/node_modules/b/x.js", "")], "#x")
+    let manifest = write(&object(vec![("imports", object(vec![("#x", imports)]))]), PLAIN, &mut Rng::new(0, 0));
+    let mut world = world(&manifest, &[("/p/node_modules/b/x.js", ""), ("/p/node_modules/b/package.json", "{}")], "#x");
+    world.settings[EXTENSIONS].clear();
+    world
+}
+
+/// Refusals that nothing drops: a manifest over a limit, met where a fragment is tried as a part of the path, and a target that is too long.
+fn refused() -> Vec<(World, u32)> {
+    let members = format!("[0{}]", ",0".repeat(128));
+    let dotted = [("/p/node_modules/b/index.js", ""), ("/p/node_modules/.#f/package.json", &members)];
+    let name = format!("#{}", "y".repeat(500));
+    let long = |target: &str| world(format!(r##"{{"imports":{{"#*":["{target}","./x.js"]}}}}"##).as_bytes(), &[("/p/x.js", "")], &name);
+    vec![
+        (world(br##"{"imports":{"#x":["b#f","./x.js"]}}"##, &dotted, "#x"), 40),
+        (long("b/****"), 0),
+        (long("b/****y".repeat(2).as_str()), 42),
+        (long("b*****"), 42),
+        (long("*****"), 42),
+    ]
 }
 
 fn world(manifest: &[u8], files: &[(&str, &str)], specifier: &str) -> World {
@@ -507,8 +526,8 @@ pub fn fixed() -> Vec<Case> {
     }
     // The 64th step is made, the 65th to the 255th are not, and from the 256th on they are again.
     for (before, number) in [(63, 0), (64, 56), (254, 56), (255, 0), (319, 0), (320, 56)] {
-        let case = Case { stated: Some(number), ..steps(before).case() };
-        all.push(case);
+        all.push(Case { stated: Some(number), ..steps(before).case() });
     }
+    all.extend(refused().into_iter().map(|(world, number)| Case { stated: Some(number), ..world.case() }));
     all
 }

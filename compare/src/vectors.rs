@@ -18,6 +18,10 @@ const SAME: u32 = 0xFFFF_FFFF;
 /// The numbers that begin a case take this many bytes.
 const HEADER: usize = 60;
 
+/// What the program that replays them lends and reads at most (crates/vectors_main).
+const LENT: Rooms = Rooms { result: 4_096, numbers: 512, list: 4_096, work: 40_960 };
+const FILE: usize = 1_500_000;
+
 /// How many cases are kept at least of each answer, each refusal, and each routine or branch.
 const OF_ANSWER: u64 = 80;
 const OF_REFUSAL: u64 = 30;
@@ -119,8 +123,8 @@ impl Chosen {
             Fit::Wanted => (small || few) && self.wants(&want, &expected),
             Fit::Small => small && (want.number != 1 || expected.list.len() < 10),
         };
-        // The program that replays them lends no more.
-        let fits = rooms.result <= 4_096 && rooms.numbers <= 512 && rooms.list <= 4_096;
+        let Rooms { result, numbers, list, work } = LENT;
+        let fits = rooms.result <= result && rooms.numbers <= numbers && rooms.list <= list && rooms.work <= work;
         if !kept || !fits || !self.known.insert(crate::fingerprint(case)) {
             return Ok(false);
         }
@@ -190,8 +194,13 @@ pub fn write(file: &str, seed: u64) -> bool {
     };
     let bytes = [&chosen.count.to_le_bytes()[..], &chosen.out].concat();
     println!("{} cases in {} bytes; by number: {:?}", chosen.count, bytes.len(), chosen.numbers);
-    let fewest = points::POINTS.iter().zip(&chosen.marks).min_by_key(|point| point.1);
-    fewest.iter().for_each(|(words, count)| println!("the fewest cases reach \"{words}\": {count}"));
+    let due = |point: &usize| HASH_NAMES || !points::of_hash_names(*point);
+    let fewest = (0..chosen.marks.len()).filter(due).min_by_key(|&point| chosen.marks[point]);
+    fewest.iter().for_each(|&point| println!("the fewest cases reach \"{}\": {}", points::POINTS[point], chosen.marks[point]));
+    if bytes.len() > FILE {
+        println!("the program that replays them reads {FILE} bytes at most");
+        return false;
+    }
     std::fs::write(file, bytes).is_ok()
 }
 
