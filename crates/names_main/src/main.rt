@@ -142,7 +142,7 @@ fn name_row(which: u8, row: &[u8]) -> bool {
     if which == b'c' {
         return climb(a, b, field(row, 3));
     }
-    package_name::check(a) == text::equal(b, b"taken")
+    package_name::check(a) == text::equal(b, b"bare")
 }
 
 // The path of what stands before the query.
@@ -335,9 +335,9 @@ fn package_names() {
     report(
         b"question's specifier",
         rows(
-            b"b|a|taken\nb|@|taken\nb|@a/b|taken\nb|a/|taken\nb|\\|taken\nb|...|taken\nb|.a/b|taken\nb|a/../../b|taken\nb|\xC3\xA9#?|taken\nb||\nb|.|\nb|..|\nb|./a|\nb|../a|\nb|/a|\nb|#a|taken\nb|#|taken\nb|#/|taken\nb|#a\x00|\nb|a\x00b|\nb|a\xC3|\n",
+            b"b|a|bare\nb|@|bare\nb|@a/b|bare\nb|a/|bare\nb|\\|bare\nb|...|bare\nb|.a/b|bare\nb|a/../../b|bare\nb|\xC3\xA9#?|bare\nb||\nb|.|\nb|..|\nb|./a|\nb|../a|\nb|/a|\nb|#a|\nb|a\x00b|\nb|a\xC3|\n",
         ),
-        21,
+        18,
     );
     report(
         b"second walk",
