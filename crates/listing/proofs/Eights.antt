@@ -8,12 +8,12 @@ use native.Mathlib.Omega.{arith}
 use borrow.Author.Tests.{eq-eqb, lt-ltb, le-ltb}
 use lib.Dec.{eqb, ltb}
 use lib.ListN.{length, drop, take, getD, length-drop}
-use lib.Seq.{take-add, getD-drop}
+use lib.Seq.{take-add, take-take, getD-drop}
 use Rattle.definition.specs.Text.{Text, smaller}
 use Rattle.definition.specs.Listing.{number32}
 use Rattle.laws.specs.ListingSteps.{at-or-under, number-at}
 use Rattle.laws.specs.ListingOrder.{Shared, shared-start, shared-next, smaller-shared}
-use Rattle.listing.specs.Meaning.{highFirst, WordsOf}
+use Rattle.listing.specs.Meaning.{highFirst, Windows, WordsOf}
 use Rattle.listing.specs.declared.Words.{Words}
 
 abbrev Bytes : List ℕ → Type 0
@@ -30,21 +30,12 @@ high-keeps : (n a c : ℕ) (s t : List ℕ) → Bytes s → a < c → highFirst 
 high-keeps zero a c s t b u = u
 high-keeps (suc n) a c s t b u = high-keeps n (a * 256 + getD s 0 0) (c * 256 + getD t 0 0) (drop 1 s) (drop 1 t) (bytes-drop s b) (omega (arith, b 0))
 
--- of nothing: zeros
-high-least : (n a c : ℕ) (s : List ℕ) → a ≤ c → highFirst n a [] ≤ highFirst n c s
-high-least zero a c s u = u
-high-least (suc n) a c s u = high-least n (a * 256 + 0) (c * 256 + getD s 0 0) (drop 1 s) (omega arith)
-
-high-none : (s : List ℕ) → length s ≡ 0 → highFirst 8 0 s ≡ 0
-high-none [] h = refl
-high-none (x ∷ s) h = let z : ⊥ = omega arith in absurd z
-
-high-less : (n a : ℕ) (s t : List ℕ) → Bytes s → Bytes t → n ≤ length s → highFirst n a s < highFirst n a t → smaller s t ≡ true
+high-less : (n a : ℕ) (s t : List ℕ) → Bytes s → Bytes t → n ≤ length s → n ≤ length t → highFirst n a s < highFirst n a t → smaller s t ≡ true
 unfolding smaller
-high-less zero a s t b c h u = let z : ⊥ = omega arith in absurd z
-high-less (suc n) a [] t b c h u = let z : ⊥ = omega arith in absurd z
-high-less (suc n) a (x ∷ s) [] b c h u = let z : ⊥ = omega (arith, high-least n (a * 256 + 0) (a * 256 + x) s (omega arith)) in absurd z
-high-less (suc n) a (x ∷ s) (y ∷ t) b c h u = go (at-or-under x y) (at-or-under y x) (high-less n (a * 256 + x) s t (bytes-rest x s b) (bytes-rest y t c) (omega arith))
+high-less zero a s t b c h k u = let z : ⊥ = omega arith in absurd z
+high-less (suc n) a [] t b c h k u = let z : ⊥ = omega arith in absurd z
+high-less (suc n) a (x ∷ s) [] b c h k u = let z : ⊥ = omega arith in absurd z
+high-less (suc n) a (x ∷ s) (y ∷ t) b c h k u = go (at-or-under x y) (at-or-under y x) (high-less n (a * 256 + x) s t (bytes-rest x s b) (bytes-rest y t c) (omega arith) (omega arith))
   where
     go : (x ≤ y) ⊎ (y < x) → (y ≤ x) ⊎ (x < y) → (highFirst n (a * 256 + x) s < highFirst n (a * 256 + x) t → smaller s t ≡ true) → ltb x y || (eqb x y && smaller s t) ≡ true
     go v (inr w) ih = rw (lt-ltb x y w)
@@ -68,8 +59,17 @@ high-same (suc n) a (x ∷ s) (y ∷ t) b c h k u = go (at-or-under x y) (at-or-
         let f : highFirst n (a * 256 + x) s ≡ highFirst n (a * 256 + x) t = u ∙ ap (λ (v : ℕ). highFirst n (a * 256 + v) t) (sym e) in
         rw (e, ih f)
 
+-- what two texts share, they share of its first bytes
+shared-less : (p q : Text) (k m : ℕ) → k ≤ m → Shared p q m → Shared p q k
+shared-less p q k m h s =
+    record {
+      left = omega (arith, s .left);
+      right = omega (arith, s .right);
+      same = sym (take-take k m p h) ∙ ap (take k) (s .same) ∙ take-take k m q h;
+    }
+
 -- behind what two texts share
-module _ (p q : Text) (i : ℕ) (s : Shared p q i) (h : i + 8 ≤ length p) (b : Bytes p) (c : Bytes q) where
+module _ (p q : Text) (i : ℕ) (s : Shared p q i) (h : i + 8 ≤ length p) (k : i + 8 ≤ length q) (b : Bytes p) (c : Bytes q) where
   b′ : Bytes (drop i p)
   b′ n = omega (arith, getD-drop i p n 0, b (i + n))
 
@@ -79,27 +79,26 @@ module _ (p q : Text) (i : ℕ) (s : Shared p q i) (h : i + 8 ≤ length p) (b :
   h′ : 8 ≤ length (drop i p)
   h′ = omega (arith, length-drop i p)
 
-  pub eight-less : highFirst 8 0 (drop i p) < highFirst 8 0 (drop i q) → smaller p q ≡ true
-  eight-less u = sym (smaller-shared i p q (s .same) (s .left) (s .right)) ∙ high-less 8 0 (drop i p) (drop i q) b′ c′ h′ u
+  k′ : 8 ≤ length (drop i q)
+  k′ = omega (arith, length-drop i q)
 
-  module _ (k : i + 8 ≤ length q) where
-    k′ : 8 ≤ length (drop i q)
-    k′ = omega (arith, length-drop i q)
+  eight-less : highFirst 8 0 (drop i p) < highFirst 8 0 (drop i q) → smaller p q ≡ true
+  eight-less u = sym (smaller-shared i p q (s .same) (s .left) (s .right)) ∙ high-less 8 0 (drop i p) (drop i q) b′ c′ h′ k′ u
 
-    pub eight-same : highFirst 8 0 (drop i p) ≡ highFirst 8 0 (drop i q) → Shared p q (i + 8)
-    eight-same u = record { left = h; right = k; same = rw (take-add i 8 p, take-add i 8 q, s .same, high-same 8 0 (drop i p) (drop i q) b′ c′ h′ k′ u) }
+  eight-same : highFirst 8 0 (drop i p) ≡ highFirst 8 0 (drop i q) → Shared p q (i + 8)
+  eight-same u = record { left = h; right = k; same = rw (take-add i 8 p, take-add i 8 q, s .same, high-same 8 0 (drop i p) (drop i q) b′ c′ h′ k′ u) }
 
-    small : (t : List ℕ) (j : ℕ) → Bytes t → number32 (drop j t) < 4294967296
-    small t j d = omega (arith, number-at t j, d j, d (j + 1), d (j + 2), d (j + 3))
+  small : (t : List ℕ) (j : ℕ) → Bytes t → number32 (drop j t) < 4294967296
+  small t j d = omega (arith, number-at t j, d j, d (j + 1), d (j + 2), d (j + 3))
 
-    pub low-same : number32 (drop i p) + 4294967296 * number32 (drop (i + 4) p) ≡ number32 (drop i q) + 4294967296 * number32 (drop (i + 4) q) → Shared p q (i + 8)
-    low-same u =
-        let x : number32 (drop i p) ≡ number32 (drop i q) = omega (arith, u, small p i b, small q i c) in
-        let y : number32 (drop (i + 4) p) ≡ number32 (drop (i + 4) q) = omega (arith, u, x) in
-        let m : Shared p q (i + 4) = shared-next p q i (omega arith) (omega arith) b c x s in
-        let n : Shared p q (i + 4 + 4) = shared-next p q (i + 4) (omega arith) (omega arith) b c y m in
-        let z : i + 4 + 4 ≡ i + 8 = omega arith in
-        rw z at n
+  low-same : number32 (drop i p) + 4294967296 * number32 (drop (i + 4) p) ≡ number32 (drop i q) + 4294967296 * number32 (drop (i + 4) q) → Shared p q (i + 8)
+  low-same u =
+      let x : number32 (drop i p) ≡ number32 (drop i q) = omega (arith, u, small p i b, small q i c) in
+      let y : number32 (drop (i + 4) p) ≡ number32 (drop (i + 4) q) = omega (arith, u, x) in
+      let m : Shared p q (i + 4) = shared-next p q i (omega arith) (omega arith) b c x s in
+      let n : Shared p q (i + 4 + 4) = shared-next p q (i + 4) (omega arith) (omega arith) b c y m in
+      let z : i + 4 + 4 ≡ i + 8 = omega arith in
+      rw z at n
 
 abbrev tails : ℕ → List ℕ → List ℕ
 tails zero t = t
@@ -117,42 +116,39 @@ eight-of s k a b e f = let z : getD s (k + 0) 0 ≡ getD s k 0 = ap (λ (n : ℕ
     at : (i : ℕ) → getD (tails i (drop k s)) 0 0 ≡ getD s (k + i) 0
     at i = nth i (drop k s) ∙ getD-drop k s i 0
 
--- a word at k that is not 0 shows that the text goes on there
-goes-on : (q : Text) (k : ℕ) → 0 < highFirst 8 0 (drop k q) → k < length q
-goes-on q k u = go (at-or-under (length q) k)
-  where
-    go : (length q ≤ k) ⊎ (k < length q) → k < length q
-    go (inl h) = let z : ⊥ = omega (arith, high-none (drop k q) (omega (arith, length-drop k q))) in absurd z
-    go (inr h) = h
-
-pub high-past : (q : Text) (k : ℕ) → length q ≤ k → 0 ≡ highFirst 8 0 (drop k q)
-high-past q k h = sym (high-none (drop k q) (omega (arith, length-drop k q)))
-
--- a text of 32 bytes or more beside the first words of another
-module _ (p q : Text) (w : Words) (o : WordsOf q w) (h : 32 ≤ length p) (b : Bytes p) where
+-- a text of 32 bytes or more beside the first words of another: a window is reached by what both share of the windows before it
+module _ (p q : Text) (w : Words) (o : WordsOf q w) (v : Windows w) (h : 32 ≤ length p) (b : Bytes p) where
   pub by-first : highFirst 8 0 (drop 0 p) < w .first → smaller p q ≡ true
-  by-first u = eight-less p q 0 (shared-start p q) (omega arith) b (o .bytes) (omega (arith, o .first))
+  by-first u =
+      let n : 0 + 8 ≤ length q = o .first .1 (omega arith) in
+      eight-less p q 0 (shared-start p q) (omega arith) n b (o .bytes) (omega (arith, o .first .0 n))
 
   module _ (e : number32 (drop 0 p) + 4294967296 * number32 (drop (0 + 4) p) ≡ w .start) where
-    share-8 : 8 ≤ length q → Shared p q 8
-    share-8 n = low-same p q 0 (shared-start p q) (omega arith) b (o .bytes) (omega arith) (e ∙ o .isStart (omega arith))
+    to-second : w .at8 + 8 ≤ length q → Shared p q (w .at8)
+    to-second n =
+        let s : Shared p q (0 + 8) = low-same p q 0 (shared-start p q) (omega arith) (omega arith) b (o .bytes) (e ∙ o .isStart (omega arith)) in
+        shared-less p q (w .at8) (0 + 8) (omega (arith, v .low8)) s
 
-    pub by-second : highFirst 8 0 (drop 8 p) < w .second → smaller p q ≡ true
+    pub by-second : highFirst 8 0 (drop (w .at8) p) < w .second → smaller p q ≡ true
     by-second u =
-        let n : 8 < length q = goes-on q 8 (omega (arith, o .second)) in
-        eight-less p q 8 (share-8 (omega arith)) (omega arith) b (o .bytes) (omega (arith, o .second))
+        let n : w .at8 + 8 ≤ length q = o .second .1 (omega arith) in
+        eight-less p q (w .at8) (to-second n) (omega (arith, v .low8)) n b (o .bytes) (omega (arith, o .second .0 n))
 
-    module _ (f : number32 (drop 8 p) + 4294967296 * number32 (drop (8 + 4) p) ≡ w .next) where
-      share-16 : 16 ≤ length q → Shared p q 16
-      share-16 n = low-same p q 8 (share-8 (omega arith)) (omega arith) b (o .bytes) (omega arith) (f ∙ o .isNext (omega arith))
+    module _ (f : number32 (drop (w .at8) p) + 4294967296 * number32 (drop (w .at8 + 4) p) ≡ w .next) where
+      to-third : w .at16 + 8 ≤ length q → Shared p q (w .at16)
+      to-third n =
+          let m : w .at8 + 8 ≤ length q = omega (arith, v .high16) in
+          let s : Shared p q (w .at8 + 8) = low-same p q (w .at8) (to-second m) (omega (arith, v .low8)) m b (o .bytes) (f ∙ o .isNext m) in
+          shared-less p q (w .at16) (w .at8 + 8) (v .low16) s
 
-      pub by-third : highFirst 8 0 (drop 16 p) < w .third → smaller p q ≡ true
+      pub by-third : highFirst 8 0 (drop (w .at16) p) < w .third → smaller p q ≡ true
       by-third u =
-          let n : 16 < length q = goes-on q 16 (omega (arith, o .third)) in
-          eight-less p q 16 (share-16 (omega arith)) (omega arith) b (o .bytes) (omega (arith, o .third))
+          let n : w .at16 + 8 ≤ length q = o .third .1 (omega arith) in
+          eight-less p q (w .at16) (to-third n) (omega (arith, v .low8, v .low16)) n b (o .bytes) (omega (arith, o .third .0 n))
 
-      pub by-fourth : highFirst 8 0 (drop 16 p) ≡ w .third → highFirst 8 0 (drop 24 p) < w .fourth → smaller p q ≡ true
+      pub by-fourth : highFirst 8 0 (drop (w .at16) p) ≡ w .third → highFirst 8 0 (drop (w .at24) p) < w .fourth → smaller p q ≡ true
       by-fourth g u =
-          let n : 24 < length q = goes-on q 24 (omega (arith, o .fourth)) in
-          let s : Shared p q 24 = eight-same p q 16 (share-16 (omega arith)) (omega arith) b (o .bytes) (omega arith) (g ∙ o .third) in
-          eight-less p q 24 s (omega arith) b (o .bytes) (omega (arith, o .fourth))
+          let n : w .at24 + 8 ≤ length q = o .fourth .1 (omega arith) in
+          let m : w .at16 + 8 ≤ length q = omega (arith, v .high24) in
+          let s : Shared p q (w .at16 + 8) = eight-same p q (w .at16) (to-third m) (omega (arith, v .low8, v .low16)) m b (o .bytes) (g ∙ o .third .0 m) in
+          eight-less p q (w .at24) (shared-less p q (w .at24) (w .at16 + 8) (v .low24) s) (omega (arith, v .low8, v .low16, v .low24)) n b (o .bytes) (omega (arith, o .fourth .0 n))

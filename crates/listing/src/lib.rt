@@ -1,17 +1,20 @@
 // The lent listing: its numbers, its search, and where two of its paths part. Every public function takes any bytes.
+//
+// On the way of a search a slice is passed on as `&*x`, which goes in registers. Passed on as `x`, the parameter itself stands in memory, the
+// compiler cannot see that the path's address is not kept, and whoever built the path by value copies its 2 KiB.
 ghost use mathlib.Core.Path.{_≡_};
-ghost use mathlib.Core.Bool.{_&&_, true};
+ghost use mathlib.Core.Bool.{_&&_, true, false};
 ghost use mathlib.Core.List.{List};
-ghost use Prim.Native.Nat.{ℕ, _+_, _*_, _≤_, _<_, min};
+ghost use Prim.Native.Nat.{ℕ, _+_, _-_, _*_, _≤_, _<_, min};
 ghost use lib.ListN.{length, drop, getD};
 ghost use lib.Dec.{leb};
 ghost use Rattle.definition.specs.Text.{equal, smaller};
 ghost use Rattle.definition.specs.Listing.{noEntry, number32, entryCount, contentsLength, isDirectoryOf, foundAt, placeAt};
 ghost use Rattle.definition.specs.Ask.{asked};
-ghost use Rattle.laws.specs.ListingSteps.{part};
+ghost use Rattle.laws.specs.ListingSteps.{part, pathLengthAt};
 ghost use Rattle.laws.specs.ListingOrder.{Shared};
-ghost use Rattle.laws.specs.SearchLaws.{Stopping, Missing};
-ghost use Rattle.listing.specs.Meaning.{Searched, placeOf, Attempted, Placed, Reached, LowWord, WordsOf, highFirst, partingOf};
+ghost use Rattle.laws.specs.SearchLaws.{Stopping};
+ghost use Rattle.listing.specs.Meaning.{Searched, placeOf, Attempted, Placed, Reached, startOf, hasPath, NoneBefore, SoughtFor, LowWord, HighWord, Windows, WordsOf, highFirst, partingOf};
 
 fn wide(x: u8) -> usize
     ensures { λ r. ⌜ (r ≡ x) × (r < 256) ⌝ }
@@ -230,7 +233,7 @@ struct Spot {
 // The first of the entries from `from` to `to` that has the path, or else entry `to`.
 fn pass_others(l: &[u8], n: usize, from: usize, start: usize, to: usize, path: &[u8]) -> Spot
     requires { ⌜ Reached (now l) n from start × (from ≤ to) × (to ≤ n) ⌝ }
-    ensures { λ r. ⌜ Reached (now (l .entry)) n (r .index) (r .at) × (r .index ≤ to) × (Missing (now (l .entry)) (now (path .entry)) from start → Missing (now (l .entry)) (now (path .entry)) (r .index) (r .at)) ⌝ }
+    ensures { λ r. ⌜ Reached (now (l .entry)) n (r .index) (r .at) × (r .index ≤ to) × (NoneBefore (now (l .entry)) (now (path .entry)) from → NoneBefore (now (l .entry)) (now (path .entry)) (r .index)) × (r .index < to → hasPath (now (l .entry)) (now (path .entry)) (r .index) ≡ true) ⌝ }
 {
     let mut i = from;
     let mut at = start;
@@ -249,7 +252,7 @@ fn pass_others(l: &[u8], n: usize, from: usize, start: usize, to: usize, path: &
 // Whether the i-th path lies within the bytes and is past the one sought.
 fn is_past(l: &[u8], n: usize, i: usize, at: usize, path: &[u8]) -> bool
     requires { ⌜ Reached (now l) n i at × (i < n) ⌝ }
-    ensures { λ r. ⌜ (r ≡ true → Missing (now (l .entry)) (now (path .entry)) i at → placeAt (now (l .entry)) (now (path .entry)) ≡ noEntry) ⌝ }
+    ensures { λ r. ⌜ (r ≡ true → NoneBefore (now (l .entry)) (now (path .entry)) i → placeAt (now (l .entry)) (now (path .entry)) ≡ noEntry) ⌝ }
 {
     let end = at + number_at(l, 8 + 4 * i);
     if end > l.len() {
@@ -264,30 +267,41 @@ fn least(a: usize, b: usize) -> usize
     if a < b { a } else { b }
 }
 
-// Whether no entry has the path, which needs no order: lengths and last bytes are compared first. Now and then a path is compared whole:
-// where it is past the one sought and none before it was equal, none is found, whatever follows. False says nothing.
-fn is_missing(l: &[u8], n: usize, path: &[u8]) -> bool
+// What the search for an equal path says; unknown where the lengths run past the end.
+enum Sought {
+    At(Spot),
+    Nowhere,
+    Unknown,
+}
+
+// The first entry that has the path, which needs no order: lengths and last bytes are compared first. Now and then a path is compared whole:
+// where it is past the one sought and none before it was equal, none is found, whatever follows.
+fn first_equal(l: &[u8], n: usize, path: &[u8]) -> Sought
     requires { ⌜ Reached (now l) n 0 (8 + 8 * n) ⌝ }
-    ensures { λ r. ⌜ (r ≡ true → placeAt (now (l .entry)) (now (path .entry)) ≡ noEntry) ⌝ }
+    ensures { λ r. ⌜ SoughtFor (now (l .entry)) (now (path .entry)) n r ⌝ }
 {
     let step = 32 + n / 8;
     let mut i = 0;
     let mut at = 8 + 8 * n;
     while i < n {
         let to = least(i + step, n);
-        let s = pass_others(l, n, i, at, to, path);
+        let s = pass_others(&*l, n, i, at, to, &*path);
         i = s.index;
         at = s.at;
         if i < to {
-            return false;
+            return Sought::At(s);
         }
         if i < n {
-            if is_past(l, n, i, at, path) {
-                return true;
+            if is_past(&*l, n, i, at, &*path) {
+                return Sought::Nowhere;
             }
         }
     }
-    at <= l.len()
+    if at <= l.len() {
+        Sought::Nowhere
+    } else {
+        Sought::Unknown
+    }
 }
 
 fn high(a: u8, b: u8, c: u8, d: u8) -> usize
@@ -305,83 +319,99 @@ fn eight(s: &[u8], k: usize) -> usize
         + high(s[k + 4], s[k + 5], s[k + 6], s[k + 7])
 }
 
-// The first 32 bytes of the path that is sought, eight in a number, read once for all entries. What is missing counts as zeros, and below
-// these is no byte.
+// The first 32 bytes of the path that is sought, eight in a number, read once for all entries: those at 0, 8, 16 and 24, or in a shorter
+// path the last eight instead. Such windows overlap, which leaves the order as it is. Of a path of less than eight bytes they are 0, and
+// nothing is below that.
 struct Words {
     start: usize,
     next: usize,
     first: usize,
+    at8: usize,
     second: usize,
+    at16: usize,
     third: usize,
+    at24: usize,
     fourth: usize,
 }
 
-fn eight_or_less(q: &[u8], k: usize) -> usize
+fn eight_or_zero(q: &[u8], k: usize) -> usize
     requires { ⌜ k < 1024 ⌝ }
-    ensures { λ r. ⌜ r ≡ highFirst 8 0 (drop k (now (q .entry))) ⌝ }
+    ensures { λ r. ⌜ HighWord (now (q .entry)) k r ⌝ }
 {
-    if k + 8 <= q.len() {
-        return eight(q, k);
-    }
-    if k >= q.len() {
-        return 0;
-    }
-    high(byte(q, k), byte(q, k + 1), byte(q, k + 2), byte(q, k + 3)) * 4294967296
-        + high(
-            byte(q, k + 4),
-            byte(q, k + 5),
-            byte(q, k + 6),
-            byte(q, k + 7),
-        )
+    if k + 8 <= q.len() { eight(&*q, k) } else { 0 }
 }
 
 fn low_or_zero(q: &[u8], k: usize) -> usize
     requires { ⌜ k < 1024 ⌝ }
     ensures { λ r. ⌜ LowWord (now (q .entry)) k r ⌝ }
 {
-    if k + 8 <= q.len() { low(q, k) } else { 0 }
+    if k + 8 <= q.len() { low(&*q, k) } else { 0 }
+}
+
+// Where the window at k of n bytes begins: so that it lies within them, if one does.
+fn window(n: usize, k: usize) -> usize
+    requires { ⌜ k < 1024 ⌝ }
+    ensures { λ r. ⌜ r ≡ min k (n - 8) ⌝ }
+{
+    if k + 8 <= n {
+        return k;
+    }
+    if n < 8 {
+        return 0;
+    }
+    n - 8
 }
 
 fn words_of(q: &[u8]) -> Words
-    ensures { λ r. ⌜ WordsOf (now (q .entry)) r ⌝ }
+    ensures { λ r. ⌜ WordsOf (now (q .entry)) r × Windows r ⌝ }
 {
+    let n = q.len();
+    let b = window(n, 8);
+    let c = window(n, 16);
+    let d = window(n, 24);
     Words {
-        start: low_or_zero(q, 0),
-        next: low_or_zero(q, 8),
-        first: eight_or_less(q, 0),
-        second: eight_or_less(q, 8),
-        third: eight_or_less(q, 16),
-        fourth: eight_or_less(q, 24),
+        start: low_or_zero(&*q, 0),
+        next: low_or_zero(&*q, b),
+        first: eight_or_zero(&*q, 0),
+        at8: b,
+        second: eight_or_zero(&*q, b),
+        at16: c,
+        third: eight_or_zero(&*q, c),
+        at24: d,
+        fourth: eight_or_zero(&*q, d),
     }
 }
 
 // Whether its first 32 bytes show that a text is below the one of those words; false says nothing.
 fn surely_below(p: &[u8], w: Words) -> bool
-    requires { ⌜ 32 ≤ length (now p) ⌝ }
+    requires { ⌜ (32 ≤ length (now p)) × Windows w ⌝ }
     ensures { λ r. ⌜ (r ≡ true → (q : List ℕ) → WordsOf q w → smaller (now (p .entry)) q ≡ true) ⌝ }
 {
-    if low(p, 0) != w.start {
-        return eight(p, 0) < w.first;
+    if low(&*p, 0) != w.start {
+        return eight(&*p, 0) < w.first;
     }
-    if low(p, 8) != w.next {
-        return eight(p, 8) < w.second;
+    let b = w.at8;
+    if low(&*p, b) != w.next {
+        return eight(&*p, b) < w.second;
     }
-    let a = eight(p, 16);
+    let c = w.at16;
+    let a = eight(&*p, c);
     if a != w.third {
         return a < w.third;
     }
-    eight(p, 24) < w.fourth
+    let d = w.at24;
+    eight(&*p, d) < w.fourth
 }
 
-// The first of the entries from `from` on that is not surely below the path of those words. What is smaller with all the bytes that
-// follow is smaller by itself, so an entry's length need not be looked at.
-fn pass_below(l: &[u8], n: usize, from: usize, start: usize, w: Words) -> Spot
-    requires { ⌜ Reached (now l) n from start ⌝ }
-    ensures { λ r. ⌜ Reached (now (l .entry)) n (r .index) (r .at) × (from ≤ r .index) × ((q : List ℕ) → WordsOf q w → Stopping (now (l .entry)) q from start → Stopping (now (l .entry)) q (r .index) (r .at)) ⌝ }
+// The first of the entries from `from` to `to` that is not surely below the path of those words, or else entry `to`. What is smaller with
+// all the bytes that follow is smaller by itself, so an entry's length need not be looked at.
+fn pass_below(l: &[u8], n: usize, from: usize, start: usize, to: usize, w: Words) -> Spot
+    requires { ⌜ Reached (now l) n from start × (from ≤ to) × (to ≤ n) × Windows w ⌝ }
+    ensures { λ r. ⌜ Reached (now (l .entry)) n (r .index) (r .at) × (from ≤ r .index) × (r .index ≤ to) × ((q : List ℕ) → WordsOf q w → Stopping (now (l .entry)) q from start → Stopping (now (l .entry)) q (r .index) (r .at)) ⌝ }
 {
     let mut i = from;
     let mut at = start;
-    while i < n {
+    while i < to {
         if at + 32 > l.len() {
             return Spot { index: i, at: at };
         }
@@ -396,50 +426,56 @@ fn pass_below(l: &[u8], n: usize, from: usize, start: usize, w: Words) -> Spot
     Spot { index: i, at: at }
 }
 
+// Whether every path before entry `to` is below the one sought. Entry `to` begins within the bytes, and so all before it lies within them.
+fn all_below(l: &[u8], n: usize, to: usize, path: &[u8]) -> bool
+    requires { ⌜ Reached (now l) n 0 (8 + 8 * n) × (to ≤ n) × (startOf (now l) to ≤ length (now l)) ⌝ }
+    ensures { λ r. ⌜ (r ≡ true → Stopping (now (l .entry)) (now (path .entry)) to (startOf (now (l .entry)) to)) × (r ≡ false → NoneBefore (now (l .entry)) (now (path .entry)) to → noEntry ≡ placeAt (now (l .entry)) (now (path .entry))) ⌝ }
+{
+    let w = words_of(&*path);
+    let mut i = 0;
+    let mut at = 8 + 8 * n;
+    while i < to {
+        let s = pass_below(&*l, n, i, at, to, w);
+        i = s.index;
+        at = s.at;
+        if i >= to {
+            return true;
+        }
+        let end = at + number_at(l, 8 + 4 * i);
+        if !is_below(&l[at..end], path) {
+            return false;
+        }
+        let c = number_at(l, 8 + 4 * n + 4 * i);
+        at = end + contents_length(c);
+        i += 1;
+    }
+    true
+}
+
+// What a search finds that ends at the i-th entry, whose path is the one sought.
+fn found_entry(l: &[u8], n: usize, i: usize, at: usize) -> Found
+    requires { ⌜ Reached (now l) n i at × (i < n) × (at + pathLengthAt (now l) i ≤ length (now l)) ⌝ }
+    ensures { λ r. ⌜ ((q : List ℕ) → Stopping (now (l .entry)) q i at → hasPath (now (l .entry)) q i ≡ true → placeOf r ≡ placeAt (now (l .entry)) q) ⌝ }
+{
+    let end = at + number_at(l, 8 + 4 * i);
+    let c = number_at(l, 8 + 4 * n + 4 * i);
+    if c == 4294967295 {
+        return Found::Directory;
+    }
+    Found::File {
+        start: end,
+        end: reach(end, c, l.len()),
+    }
+}
+
 // What a search over unclamped lengths says.
 enum Attempt {
     Sure(Found),
     Unsure,
 }
 
-// The lengths are added up unclamped: a path that is compared lies within the bytes, and so does all before it; where every path is below,
-// one test at the end shows whether all did.
-fn search_unclamped(l: &[u8], n: usize, path: &[u8]) -> Attempt
-    requires { ⌜ Reached (now l) n 0 (8 + 8 * n) ⌝ }
-    ensures { λ r. ⌜ Attempted (now (l .entry)) (now (path .entry)) r ⌝ }
-{
-    let w = words_of(path);
-    let mut at = 8 + 8 * n;
-    let mut i = 0;
-    while i < n {
-        let end = at + number_at(l, 8 + 4 * i);
-        let c = number_at(l, 8 + 4 * n + 4 * i);
-        if end > l.len() {
-            return Attempt::Unsure;
-        }
-        if !is_below(&l[at..end], path) {
-            if !same(&l[at..end], path) {
-                return Attempt::Sure(Found::Absent);
-            }
-            if c == 4294967295 {
-                return Attempt::Sure(Found::Directory);
-            }
-            return Attempt::Sure(Found::File {
-                start: end,
-                end: reach(end, c, l.len()),
-            });
-        }
-        let s = pass_below(l, n, i + 1, end + contents_length(c), w);
-        i = s.index;
-        at = s.at;
-    }
-    if at > l.len() {
-        return Attempt::Unsure;
-    }
-    Attempt::Sure(Found::Absent)
-}
-
-// The search where the tables lie within the bytes.
+// The search where the tables lie within the bytes: the first path not below is the one sought if it is the first equal one and all before it
+// are below.
 fn search_tables(l: &[u8], n: usize, path: &[u8]) -> Attempt
     requires { ⌜ n ≡ entryCount (now l) ⌝ }
     ensures { λ r. ⌜ Attempted (now (l .entry)) (now (path .entry)) r ⌝ }
@@ -450,10 +486,19 @@ fn search_tables(l: &[u8], n: usize, path: &[u8]) -> Attempt
     if 8 + 8 * n > l.len() {
         return Attempt::Unsure;
     }
-    if is_missing(l, n, path) {
-        return Attempt::Sure(Found::Absent);
+    let sought = first_equal(&*l, n, &*path);
+    match sought {
+        Sought::Unknown => Attempt::Unsure,
+        Sought::Nowhere => Attempt::Sure(Found::Absent),
+        Sought::At(s) => {
+            let i = s.index;
+            let at = s.at;
+            if all_below(&*l, n, i, &*path) {
+                return Attempt::Sure(found_entry(&*l, n, i, at));
+            }
+            Attempt::Sure(Found::Absent)
+        }
     }
-    search_unclamped(l, n, path)
 }
 
 // What the path has in the listing, by the search that ends at the first path not below it. The clamped search has one call, so that it is

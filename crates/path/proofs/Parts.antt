@@ -14,7 +14,7 @@ use Rattle.laws.specs.TextSteps.{first-inside}
 use Rattle.definition.specs.Path.{path-computes, parentDir, normal, component, push, parent, pops, Built, built, tooLong, andPath, limited, pushComponent, pushAll, pushRelative, normalizeWith, normalizeRelative, invalidComponent, anyInvalid}
 use Rattle.laws.specs.PathLaws.{limited-fits, component-up, parts, parts-more, parts-last, parts-rooted, rooted, not-rooted, anyInvalid-append, pushAll-append, pushRelative-append, rootOf, relative-parts, parent-short, room, room-high, relative-length, with-empty, with-rooted, with-parts}
 use Rattle.laws.specs.PathSteps.{starts-with, starts-empty}
-use Rattle.path.specs.Meaning.{pathAt}
+use Rattle.path.specs.Meaning.{pathAt, Roomy}
 use Rattle.path.proofs.Steps.{at-fits, at-long}
 
 -- `is_invalid_part`
@@ -51,7 +51,7 @@ module _ (t : List ℕ) (at e : ℕ) (h : e ≡ at + length (before slash (drop 
     pub invalid-more : e < length t → anyInvalid (parts (drop at t)) ≡ anyInvalid (parts (drop (e + 1) t))
     invalid-more l = rw (parts-more t at e h l, anyInvalid-append (component (take (e - at) (drop at t))) (parts (drop (e + 1) t)), k)
 
--- `push_part`
+-- `push_component`
 built-all : (b : Built) → andPath b (λ p. built p) ≡ b
 built-all (built p) = refl
 built-all tooLong = refl
@@ -80,8 +80,8 @@ module _ (b : List ℕ) (n : ℕ) (s : List ℕ) where
       go (built p) = sym (built-all (limited (push p s)))
       go tooLong = refl
 
-  -- `push_relative_part`: where ".." pops, it goes as `push_part`
-  pub relative-same : (equal s (text "..") ≡ true → pops (take n b) ≡ true) → andPath (pathAt b n) (λ p. pushAll (component s) p) ≡ andPath (pathAt b n) (λ p. limited (pushRelative (component s) p))
+  -- as long as ".." pops it does not matter whether it would stay
+  relative-same : (equal s (text "..") ≡ true → pops (take n b) ≡ true) → andPath (pathAt b n) (λ p. pushAll (component s) p) ≡ andPath (pathAt b n) (λ p. limited (pushRelative (component s) p))
   unfolding component pushAll pushComponent pushRelative
   relative-same f = go (leb n 2048) refl
     where
@@ -95,7 +95,7 @@ module _ (b : List ℕ) (n : ℕ) (s : List ℕ) where
       go true h = rw (at-fits b n (leb-true _ _ h)) (part (equal s [] || equal s (text ".")) (equal s (text "..")) (leb-true _ _ h) f)
       go false h = rw (at-long b n (leb-false _ _ h))
 
-  pub relative-stays : equal s (text "..") ≡ true → pops (take n b) ≡ false → andPath (pathAt b n) (λ p. limited (push p s)) ≡ andPath (pathAt b n) (λ p. limited (pushRelative (component s) p))
+  relative-stays : equal s (text "..") ≡ true → pops (take n b) ≡ false → andPath (pathAt b n) (λ p. limited (push p s)) ≡ andPath (pathAt b n) (λ p. limited (pushRelative (component s) p))
   unfolding pushRelative
   relative-stays e f = rw (component-up s e, equal-true s (text "..") e) (go (leb n 2048) refl)
     where
@@ -103,7 +103,20 @@ module _ (b : List ℕ) (n : ℕ) (s : List ℕ) where
       go true h = rw (at-fits b n (leb-true _ _ h), f)
       go false h = rw (at-long b n (leb-false _ _ h))
 
--- `push_parts`
+-- `push_part`: it goes as `push_component` where ".." pops or is not looked at
+pub part-same : (stays : Bool) (b : List ℕ) (n : ℕ) (s : List ℕ) {y : Built} → (stays ≡ true → equal s (text "..") ≡ true → pops (take n b) ≡ true)
+    → y ≡ andPath (pathAt b n) (λ p. pushAll (component s) p)
+    → y ≡ andPath (pathAt b n) (λ p. if stays then limited (pushRelative (component s) p) else pushAll (component s) p)
+part-same false b n s f e = e
+part-same true b n s f e = e ∙ relative-same b n s (f refl)
+
+pub part-stays : (stays : Bool) (b : List ℕ) (n : ℕ) (s : List ℕ) {y : Built} → stays ≡ true → equal s (text "..") ≡ true → pops (take n b) ≡ false
+    → y ≡ andPath (pathAt b n) (λ p. limited (push p s))
+    → y ≡ andPath (pathAt b n) (λ p. if stays then limited (pushRelative (component s) p) else pushAll (component s) p)
+part-stays false b n s t e f k = absurd (false≢true t)
+part-stays true b n s t e f k = k ∙ relative-stays b n s e f
+
+-- `push_parts` where ".." pops
 module _ (x y : Built) (sub : List ℕ) (at e : ℕ) (h : e ≡ at + length (before slash (drop at sub)))
     (k : y ≡ andPath x (λ p. pushAll (component (take (e - at) (drop at sub))) p)) where
   pub with-last : length sub ≤ e → y ≡ andPath x (λ p. pushAll (parts (drop at sub)) p)
@@ -145,7 +158,7 @@ module _ (p : List ℕ) (h : length p ≡ 0 → ⊥) where
   unfolding rootOf
   root-none n = rw (not-rooted p some n)
 
--- `push_relative_parts`: from a path x₀, a path so far and the parts from `at` on left
+-- `push_parts` where ".." stays: from a path x₀, a path so far and the parts from `at` on left
 pub record Going (x₀ : List ℕ) (b : Built) (sub : List ℕ) (at : ℕ) : Type 0 where
   pub so : List ℕ
   pub is : b ≡ built so
@@ -179,6 +192,30 @@ module _ (x₀ : List ℕ) (x y : Built) (sub : List ℕ) (at e : ℕ) (h : e �
 
   pub going-last : length sub ≤ e → y ≡ built (pushRelative (parts sub) x₀)
   going-last m = next-is ∙ rw (← g .rest, parts-last sub at e h m)
+
+-- `push_parts`: the path so far with the parts from `at` on pushed is the answer; where ".." stays, there is room for them all
+abbrev pub Pushing : Bool → Built → Built → List ℕ → ℕ → Type 0
+Pushing false b₀ b sub at = andPath b (λ p. pushAll (parts (drop at sub)) p) ≡ andPath b₀ (λ p. pushAll (parts sub) p)
+Pushing true b₀ b sub at = (r : Roomy b₀ (length sub)) → Going (r .text) b sub at
+
+pub pushing-start : (stays : Bool) (b : Built) (sub : List ℕ) → Pushing stays b b sub 0
+pushing-start false b sub = refl
+pushing-start true b sub = λ r. going-start (r .text) b sub (r .is)
+
+pub pushing-more : (stays : Bool) (b₀ x y : Built) (sub : List ℕ) (at e : ℕ) → e ≡ at + length (before slash (drop at sub)) → at ≤ length sub
+    → y ≡ andPath x (λ p. if stays then limited (pushRelative (component (take (e - at) (drop at sub))) p) else pushAll (component (take (e - at) (drop at sub))) p)
+    → Pushing stays b₀ x sub at → e < length sub → Pushing stays b₀ y sub (e + 1)
+pushing-more false b₀ x y sub at e h i k g m = with-more x y sub at e h k m ∙ g
+pushing-more true b₀ x y sub at e h i k g m = λ r. going-more (r .text) x y sub at e h i (r .fits) (g r) k m
+
+pub pushing-last : (stays : Bool) (b₀ x y : Built) (sub : List ℕ) (at e : ℕ) → e ≡ at + length (before slash (drop at sub)) → at ≤ length sub
+    → y ≡ andPath x (λ p. if stays then limited (pushRelative (component (take (e - at) (drop at sub))) p) else pushAll (component (take (e - at) (drop at sub))) p)
+    → Pushing stays b₀ x sub at → length sub ≤ e → (stays ≡ true → Roomy b₀ (length sub))
+    → y ≡ andPath b₀ (λ p. if stays then built (pushRelative (parts sub) p) else pushAll (parts sub) p)
+pushing-last false b₀ x y sub at e h i k g m o = with-last x y sub at e h k m ∙ g
+pushing-last true b₀ x y sub at e h i k g m o =
+    let r = o refl in
+    going-last (r .text) x y sub at e h i (r .fits) (g r) k m ∙ rw (r .is)
 
 -- `normalize_relative`: behind "/" stands what is left to push, and it has room
 pub record Root (p : List ℕ) : Type 0 where

@@ -1,11 +1,11 @@
 // Paths: a path under construction, and path.rs.
 ghost use mathlib.Core.Path.{_≡_};
-ghost use mathlib.Core.Bool.{_&&_, _||_};
+ghost use mathlib.Core.Bool.{_&&_, _||_, true};
 ghost use mathlib.Core.List.{[], _++_, flatMap};
 ghost use Prim.Native.Nat.{_+_, _≤_, _<_};
 ghost use lib.Dec.{eqb};
 ghost use lib.ListN.{length, take, drop, getD};
-ghost use Rattle.definition.specs.Text.{text, star, equal, startsWith, replace, utf8};
+ghost use Rattle.definition.specs.Text.{text, star, if_then_else_, equal, startsWith, replace, utf8};
 ghost use Rattle.definition.specs.Path.{built, andPath, limited, push, parent, addExtension, addNameAndExtension, manifestOf, nameOf, component, pushAll, normalizeWith, pops, pushRelative, normalizeRelative, anyInvalid, isInvalidExportsTarget};
 ghost use Rattle.definition.specs.Specifier.{unescape};
 ghost use Rattle.laws.specs.PathLaws.{parts, rootOf};
@@ -126,7 +126,7 @@ fn push_at(b: &mut [u8; 2048], n: usize, part: &[u8]) -> usize
 }
 
 // Pushes the component of one part between slashes, as `push_normalized_component`; an empty part and "." are none.
-fn push_part(b: &mut [u8; 2048], n: usize, part: &[u8]) -> usize
+fn push_component(b: &mut [u8; 2048], n: usize, part: &[u8]) -> usize
     ensures { λ r. ⌜ pathAt (now (b .exit)) r ≡ andPath (pathAt (now (b .entry)) n) (λ p. pushAll (component (now (part .entry))) p) ⌝ }
 {
     if part.len() == 0 {
@@ -141,22 +141,6 @@ fn push_part(b: &mut [u8; 2048], n: usize, part: &[u8]) -> usize
     push_at(b, n, part)
 }
 
-// Pushes the components of a relative path.
-fn push_parts(b: &mut [u8; 2048], from: usize, sub: &[u8]) -> usize
-    ensures { λ r. ⌜ pathAt (now (b .exit)) r ≡ andPath (pathAt (now (b .entry)) from) (λ p. pushAll (parts (now (sub .entry))) p) ⌝ }
-{
-    let mut n = from;
-    let mut at = 0;
-    loop {
-        let e = text::find(sub, b'/', at);
-        n = push_part(b, n, &sub[at..e]);
-        if e >= sub.len() {
-            return n;
-        }
-        at = e + 1;
-    }
-}
-
 // Whether a path has a component to pop.
 fn pops(p: &[u8]) -> bool
     ensures { λ r. ⌜ r ≡ pops (now (p .entry)) ⌝ }
@@ -167,28 +151,30 @@ fn pops(p: &[u8]) -> bool
     !text::equal(p, b"/")
 }
 
-// As `push_part`, but ".." stays where nothing is left to pop.
-fn push_relative_part(b: &mut [u8; 2048], n: usize, part: &[u8]) -> usize
-    ensures { λ r. ⌜ pathAt (now (b .exit)) r ≡ andPath (pathAt (now (b .entry)) n) (λ p. limited (pushRelative (component (now (part .entry))) p)) ⌝ }
+// As `push_component`, but where `stays`, ".." stays if nothing is left to pop.
+fn push_part(b: &mut [u8; 2048], n: usize, part: &[u8], stays: bool) -> usize
+    ensures { λ r. ⌜ pathAt (now (b .exit)) r ≡ andPath (pathAt (now (b .entry)) n) (λ p. if stays then limited (pushRelative (component (now (part .entry))) p) else pushAll (component (now (part .entry))) p) ⌝ }
 {
-    if text::equal(part, b"..") {
-        if !pops(first(b, n)) {
-            return push_at(b, n, part);
+    if stays {
+        if text::equal(part, b"..") {
+            if !pops(first(b, n)) {
+                return push_at(b, n, part);
+            }
         }
     }
-    push_part(b, n, part)
+    push_component(b, n, part)
 }
 
-// Pushes the components of a text as `push_relative_part`.
-fn push_relative_parts(b: &mut [u8; 2048], from: usize, sub: &[u8]) -> usize
-    requires { ⌜ Roomy (pathAt (now b) from) (length (now sub)) ⌝ }
-    ensures { λ r. ⌜ pathAt (now (b .exit)) r ≡ andPath (pathAt (now (b .entry)) from) (λ p. built (pushRelative (parts (now (sub .entry))) p)) ⌝ }
+// Pushes the components of a text as `push_part`. The loop has two callers, so that it is compiled into neither of them: they stay small.
+fn push_parts(b: &mut [u8; 2048], from: usize, sub: &[u8], stays: bool) -> usize
+    requires { ⌜ (stays ≡ true → Roomy (pathAt (now b) from) (length (now sub))) ⌝ }
+    ensures { λ r. ⌜ pathAt (now (b .exit)) r ≡ andPath (pathAt (now (b .entry)) from) (λ p. if stays then built (pushRelative (parts (now (sub .entry))) p) else pushAll (parts (now (sub .entry))) p) ⌝ }
 {
     let mut n = from;
     let mut at = 0;
     loop {
         let e = text::find(sub, b'/', at);
-        n = push_relative_part(b, n, &sub[at..e]);
+        n = push_part(b, n, &sub[at..e], stays);
         if e >= sub.len() {
             return n;
         }
@@ -323,7 +309,7 @@ impl PathBuf {
         ensures { λ r. ⌜ pathOf r ≡ andPath (pathOf self) (λ p. pushAll (parts (now (sub .entry))) p) ⌝ }
     {
         let n = self.len;
-        self.len = push_parts(&mut self.bytes, n, sub);
+        self.len = push_parts(&mut self.bytes, n, sub, false);
         self
     }
 
@@ -333,7 +319,7 @@ impl PathBuf {
         ensures { λ r. ⌜ pathOf r ≡ andPath (pathOf self) (λ p. built (pushRelative (parts (now (sub .entry))) p)) ⌝ }
     {
         let n = self.len;
-        self.len = push_relative_parts(&mut self.bytes, n, sub);
+        self.len = push_parts(&mut self.bytes, n, sub, true);
         self
     }
 

@@ -1,15 +1,14 @@
--- An entry with another path decides nothing of whether the path is missing.
+-- An entry that is passed over has another path, or does not lie within the bytes.
 use borrow.Author.Needs.{needs}
 use native.Mathlib.Omega.{arith}
 use Prim.Native.Nat.{_-_, _≤_}
-use Rattle.laws.specs.SearchLaws.{Missing}
-use Rattle.listing.specs.Meaning.{Reached}
-use Rattle.listing.proofs.Seek.{reached-next, other-next}
+use Rattle.listing.specs.Meaning.{Reached, NoneBefore}
+use Rattle.listing.proofs.Seek.{reached-next, has-here, none-next}
 use Rattle.listing.proofs.pass_others.Statement.{statement}
 use Rattle.listing.proofs.pass_others.Tie as tie
 
 abbrev Inv-loop : tie.InvT-loop
-Inv-loop l n from start to path i₀ at₀ i at = Reached l n i at × (i ≤ to) × (Missing l path from start → Missing l path i at)
+Inv-loop l n from start to path i₀ at₀ i at = Reached l n i at × (i ≤ to) × (NoneBefore l path from → NoneBefore l path i)
 
 abbrev μ-loop : tie.MeasureT-loop
 μ-loop l n from start to path i₀ at₀ i at = to - i
@@ -60,8 +59,19 @@ matches-requires c κs = search needs
 -- at: loop → in loop → if1 taken
 returns : tie.Need-returns Inv-loop μ-loop
 returns c =
-    let at-loop : tie.At-loop Inv-loop μ-loop = c .before .before .before .before in
-    at-loop .loop .inv
+    let at-number-at : tie.After-number-at Inv-loop μ-loop = c .before .before in
+    let in-loop : tie.In-loop Inv-loop μ-loop = at-number-at .before in
+    let at-loop : tie.At-loop Inv-loop μ-loop = in-loop .before in
+    let s = at-loop .before .before .before in
+    let a = s .args in
+    let o = at-loop .loop in
+    let k = at-number-at .number-at in (
+      o .inv .0,
+      o .inv .1,
+      o .inv .2,
+      λ u. has-here (a .l .now) (a .path .now) (a .n) (o .i) (o .at) (k .result) (o .inv .0)
+          (omega (arith, in-loop .loop-test .taken, s .pre .2)) (k .ensures .0) (c .before .matches .ensures) (c .if1 .taken),
+    )
 
 -- at: loop → in loop → if1 left
 mul-number-at-2 : tie.Need-mul-number-at-2 Inv-loop μ-loop
@@ -165,10 +175,10 @@ loop-again c =
     let h = in-loop .loop-test .taken in
     let l = c .contents-length in (
       reached-next (a .l .now) (a .path .now) (a .n) (o .i) (o .at) (k .result) (o .inv .0) (omega (arith, h, s .pre .2))
-          (k .ensures .0) (m .result) (m .ensures .0) (l .ensures .1) (k .ensures .1) (m .ensures .1),
+          (k .ensures .0) (m .result) (m .ensures .0) (l .ensures) (k .ensures .1) (m .ensures .1),
       omega (arith, h),
-      λ z. other-next (a .l .now) (a .path .now) (a .n) (o .i) (o .at) (k .result) (o .inv .0) (omega (arith, h, s .pre .2))
-          (k .ensures .0) (m .result) (m .ensures .0) (at-matches .matches .ensures) (c .before .before .if1 .left) (l .ensures .0)
+      λ z. none-next (a .l .now) (a .path .now) (a .n) (o .i) (o .at) (k .result) (o .inv .0) (omega (arith, h, s .pre .2))
+          (k .ensures .0) (at-matches .matches .ensures) (c .before .before .if1 .left)
           (o .inv .2 z),
     )
   where
@@ -189,7 +199,8 @@ loop-again c =
 
 -- at: loop
 returns-2 : tie.Need-returns-2 Inv-loop μ-loop
-returns-2 c = c .before .loop .inv
+returns-2 c =
+    let o = c .before .loop .inv in (o .0, o .1, o .2, λ u. let z : ⊥ = omega (arith, u, c .loop-test .left) in absurd z)
 
 pub pass-others-spec : {M : Type 1} → statement M
 pass-others-spec =

@@ -1,4 +1,5 @@
--- The first word that differs decides. What is missing of the text sought counts as zeros, and no byte is below them.
+-- The first word that differs decides. Windows overlap, which changes nothing: what is shared is equal. Nothing is below the word
+-- of a window that does not fit.
 use mathlib.Core.Path.{sym, _∙_}
 use native.Mathlib.Omega.{arith}
 use borrow.Author.Tests.{ltb-true}
@@ -18,7 +19,8 @@ eight-requires c κs = search needs
 returns : tie.Need-returns
 returns c =
     λ e q o. let s = at-start in
-    by-first (s .args .p .now) q (s .args .w) o (s .pre) (λ n. omega (arith, at-shared-slice-known .shared-slice-known .given n))
+    by-first (s .args .p .now) q (s .args .w) o (s .pre .1) (s .pre .0)
+    (λ n. omega (arith, at-shared-slice-known .shared-slice-known .given n))
     (omega (arith, c .before .eight .ensures, ltb-true (c .before .eight .result) (s .args .w .first) e))
   where
     at-shared-slice-known : tie.After-shared-slice-known
@@ -39,7 +41,7 @@ eight-requires-2 c κs = search needs
 returns-2 : tie.Need-returns-2
 returns-2 c =
     λ e q o. let s = at-start in
-    by-second (s .args .p .now) q (s .args .w) o (s .pre)
+    by-second (s .args .p .now) q (s .args .w) o (s .pre .1) (s .pre .0)
     (λ n. omega (arith, at-shared-slice-known .shared-slice-known .given n)) (sym (at-low .low .ensures) ∙ at-if1-left .if1 .left)
     (omega (arith, c .before .eight2 .ensures, ltb-true (c .before .eight2 .result) (s .args .w .second) e))
   where
@@ -63,7 +65,8 @@ eight-requires-3 c κs = search needs
 returns-3 : tie.Need-returns-3
 returns-3 c =
     λ e q o. let s = at-start in
-    by-third (s .args .p .now) q (s .args .w) o (s .pre) (λ n. omega (arith, at-shared-slice-known .shared-slice-known .given n))
+    by-third (s .args .p .now) q (s .args .w) o (s .pre .1) (s .pre .0)
+    (λ n. omega (arith, at-shared-slice-known .shared-slice-known .given n))
     (sym (at-low .low .ensures) ∙ at-if1-left .if1 .left)
     (sym (at-low2 .low2 .ensures) ∙ at-if2-left .if2 .left)
     (omega (arith, at-eight3 .eight3 .ensures, ltb-true (at-eight3 .eight3 .result) (s .args .w .third) e))
@@ -97,7 +100,7 @@ eight-requires-4 c κs = search needs
 returns-4 : tie.Need-returns-4
 returns-4 c =
     λ e q o. let s = at-start in
-    by-fourth (s .args .p .now) q (s .args .w) o (s .pre)
+    by-fourth (s .args .p .now) q (s .args .w) o (s .pre .1) (s .pre .0)
     (λ n. omega (arith, at-shared-slice-known .shared-slice-known .given n)) (sym (at-low .low .ensures) ∙ at-if1-left .if1 .left)
     (sym (at-low2 .low2 .ensures) ∙ at-if2-left .if2 .left) (sym (at-eight3 .eight3 .ensures) ∙ c .before .before .if3 .left)
     (omega (arith, c .before .eight4 .ensures, ltb-true (c .before .eight4 .result) (s .args .w .fourth) e))
