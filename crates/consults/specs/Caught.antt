@@ -1,5 +1,5 @@
--- A ROUTINE THAT IS CAUGHT: it runs over a result text of its own, its consults stay in the list, and its end is a value
--- to what follows; the limit's end passes.
+-- A ROUTINE THAT IS CAUGHT: it runs over a result text of its own, its consults stay in the list, and its end is a
+-- value to what follows; the limit's end passes.
 use mathlib.Core.Path.{_≡_, refl, sym, _∙_, ap}
 use mathlib.Core.List.{List, [], _∷_, _++_}
 use Prim.Native.Nat.{ℕ, _-_}
@@ -17,7 +17,8 @@ use Rattle.consults.specs.Tape.{Tape, put, written, ended, after, number
 abbrev pub onto : List ℕ → Tape → Tape
 onto b t = record { result = b; numbers = t .numbers; text = t .text; count = t .count; size = t .size; left = t .left }
 
--- over the listing L the routine t, within the consults that are left, comes back or ends as x, and takes the tape s to s′
+-- over the listing L the routine t, within the consults that are left, comes back or ends as x, and takes the tape s to
+-- s′
 pub record Caught {M A : Type 0} (L : Listing M) (t : Ask End M A) (s s′ : Tape) (x : Step End A) : Type 0 where
   pub back : answer L (within over (s .left) t) ≡ x
   pub tape : written s (log L (within over (s .left) t)) ≡ s′
