@@ -30,6 +30,7 @@ const SUBPATHS: &[&str] = &[
 #[rustfmt::skip]
 const TAILS: &[&str] = &[
     "", "", "", "", "#f", "#f", "#f", "?q", "?q#f", "#g", "#", "#/x", "#f/../x.js", "\0#f", "\0\0#f", "?", "#f?q", "\0\0\0#f", "?\0#f", "#*",
+    "#f/../../x", "#f/../../x.js", "#f/",
 ];
 #[rustfmt::skip]
 const OTHERS: &[&str] = &[
@@ -362,7 +363,8 @@ fn long(rng: &mut Rng) -> World {
     let stars = rng.within(2, 5);
     world.specifier = [b"#", &broken::named(rng.within(1_600 / stars, 2_100 / stars).min(511), rng)[..]].concat();
     let fragment = "f".repeat(rng.within(900, 1_010));
-    let target = match rng.below(4) {
+    let target = match rng.below(5) {
+        4 => format!("./{}", "*".repeat(stars)),
         0 => format!("b#{fragment}"),
         1 => format!("b/x#{fragment}"),
         2 => format!("b/{}", "*".repeat(stars)),
