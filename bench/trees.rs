@@ -10,7 +10,7 @@ pub struct Job {
     pub questions: Vec<(String, String)>,
 }
 
-fn settings(texts: [&[&str]; 5]) -> Settings {
+fn settings(texts: [&[&str]; 6]) -> Settings {
     texts.map(|texts| texts.iter().map(|text| text.as_bytes().to_vec()).collect())
 }
 
@@ -30,7 +30,7 @@ pub fn printed() -> Job {
     let mut tree = Tree::new();
     file(&mut tree, "/p/node_modules/mat/lib/steel.js");
     add(&mut tree, "/p/node_modules/mat/package.json", Some(r#"{"exports":{"./*":"./lib/*.js"}}"#.into()));
-    let settings = settings([&["import"], &[".js"], &["main"], &["index"], &["exports"]]);
+    let settings = settings([&["import"], &[".js"], &["main"], &["index"], &["exports"], &["imports"]]);
     Job { name: "printed example".into(), tree, settings, questions: vec![("/p".into(), "mat/steel".into())] }
 }
 
@@ -55,7 +55,8 @@ fn with_manifest(name: &str, manifest: String, specifier: &str) -> Job {
     let mut tree = Tree::new();
     file(&mut tree, "/p/node_modules/mat/x.js");
     add(&mut tree, "/p/node_modules/mat/package.json", Some(manifest));
-    let settings = settings([&["c1", "c2", "c3", "c4", "c5", "c6", "c7", "c8"], &[".js"], &["main"], &["index"], &["exports"]]);
+    let settings =
+        settings([&["c1", "c2", "c3", "c4", "c5", "c6", "c7", "c8"], &[".js"], &["main"], &["index"], &["exports"], &["imports"]]);
     Job { name: name.into(), tree, settings, questions: vec![("/p".into(), specifier.into())] }
 }
 
@@ -202,7 +203,7 @@ pub fn realistic() -> Job {
         }
         file(&mut tree, &format!("/job/src/model/part{i:02}.js"));
     }
-    let settings = settings([&["node", "require"], &[".js", ".json", ".node"], &["main"], &["index"], &["exports"]]);
+    let settings = settings([&["node", "require"], &[".js", ".json", ".node"], &["main"], &["index"], &["exports"], &["imports"]]);
     Job { name: "realistic tree".into(), tree, settings, questions: questions(home) }
 }
 
@@ -246,7 +247,7 @@ pub fn sized(entries: usize) -> Job {
     }
     let asked = packages.min(20);
     let questions = (0..asked).map(|i| ("/p".to_string(), format!("k{:03}/x", i * packages / asked))).collect();
-    let settings = settings([&["import"], &[".js"], &["main"], &["index"], &["exports"]]);
+    let settings = settings([&["import"], &[".js"], &["main"], &["index"], &["exports"], &["imports"]]);
     Job { name: format!("{entries} entries"), tree, settings, questions }
 }
 
@@ -268,6 +269,6 @@ pub fn longest(depth: usize) -> Job {
         }
     }
     let extensions = [".1", ".2", ".3", ".4", ".5", ".6", ".7", ".8"];
-    let settings = settings([&[], &extensions, &["m1", "m2", "m3", "m4"], &["f1", "f2", "f3", "f4"], &["exports"]]);
+    let settings = settings([&[], &extensions, &["m1", "m2", "m3", "m4"], &["f1", "f2", "f3", "f4"], &["exports"], &["imports"]]);
     Job { name: "longest list".into(), tree, settings, questions: vec![("/a".repeat(depth), "x-../../../y".into())] }
 }

@@ -1,4 +1,5 @@
-// What Node.js itself resolves: for each package.json below a folder, each of its dependencies and two paths in it, required from its directory.
+// What Node.js itself resolves: for each package.json below a folder, each of its dependencies and two paths in it, and each name of its imports,
+// required from its directory.
 // node compare/resolve.mjs FOLDER prints a line for each: start, name and the file or the error's code, with tabs between.
 import { readdirSync, readFileSync } from 'node:fs';
 import { createRequire, isBuiltin } from 'node:module';
@@ -31,6 +32,9 @@ function walk(directory) {
       for (const asked of [name, name + '/package.json', name + '/missing']) {
         console.log([start, asked, resolved(directory, asked)].join('\t'));
       }
+    }
+    for (const name of Object.keys(manifest.imports ?? {})) {
+      console.log([start, name, resolved(directory, name)].join('\t'));
     }
   }
 }

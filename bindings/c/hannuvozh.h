@@ -34,7 +34,7 @@ enum {
     HANNUVOZH_LIST_TOO_SHORT = 21,   /* list_numbers or list_text is too short for the whole list */
     HANNUVOZH_SPECIFIER = 22,        /* the specifier is not bare, over 512 bytes, holds byte 0 or is not UTF-8 */
     HANNUVOZH_START = 23,            /* the start is no directory of the listing */
-    HANNUVOZH_SETTINGS = 24,         /* the settings are malformed or over a limit */
+    HANNUVOZH_SETTINGS = 24,         /* the settings are malformed or over a limit, or have not exactly one imports field */
     HANNUVOZH_WORK_TOO_SHORT = 25,   /* work is shorter than HANNUVOZH_WORK_LENGTH */
     /* the maker of the listing can mend these */
     HANNUVOZH_LISTING_SIZES = 30,      /* sizes, limits or contents are wrong */
@@ -93,6 +93,7 @@ enum {
     HANNUVOZH_MOST_MAIN_FIELDS = 4,
     HANNUVOZH_MOST_MAIN_FILES = 4,
     HANNUVOZH_MOST_EXPORTS_FIELDS = 2,
+    HANNUVOZH_IMPORTS_FIELDS = 1,       /* the sixth count of the settings: always this */
     HANNUVOZH_MOST_SETTING = 32,        /* bytes of one text of the settings */
     HANNUVOZH_MOST_MANIFEST = 16384,    /* bytes of a manifest that a lookup reads */
     HANNUVOZH_MOST_DEPTH = 16,          /* open brackets in it */
@@ -109,6 +110,8 @@ enum {
  * behind them, or zeros alone; work always ends as zeros. LENT BUFFERS MAY NOT OVERLAP, not even partly, and a length of 0 still needs a pointer
  * that is not null. list_numbers_length counts numbers, every other length bytes. list_numbers holds the list's count, the length of its text, then
  * count path lengths, then count states; list_text holds the paths, one after another. `limit` is how many consults the lookup may make.
+ * The settings are six one-byte counts (conditions, extensions, main fields, main files, exports fields, imports field), a one-byte length for
+ * each text, then the texts.
  */
 uint32_t hannuvozh_lookup(const uint8_t *listing, size_t listing_length,
                           const uint8_t *settings, size_t settings_length,

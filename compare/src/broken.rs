@@ -1,7 +1,10 @@
 //! Cases broken on purpose, each with the number it must give; limits at their value and one past; and fixed examples.
 
 use crate::cases::{Case, Room, SUBPATHS, World, bare_world, example_settings, grown};
-use crate::lent::{EXPORTS_FIELDS, EXTENSIONS, MAIN_FIELDS, MAIN_FILES, MOST, Row, Tree, lay, name_of, rows};
+use crate::lent::{
+    EXPORTS_FIELDS, EXTENSIONS, HASH_NAMES, IMPORTS_FIELDS, KINDS, MAIN_FIELDS, MAIN_FILES, MOST, Row, Settings, Tree, lay, lay_settings,
+    name_of, rows,
+};
 use crate::manifests::{PLAIN, Style, Value, object, text, write};
 use crate::rng::Rng;
 
@@ -112,8 +115,8 @@ fn break_bytes(listing: &mut Vec<u8>, count: usize, kind: usize, rng: &mut Rng) 
 }
 
 fn break_settings(settings: &mut Vec<u8>, rng: &mut Rng) {
-    let kind = rng.below(5);
-    let broken = match rng.below(10) {
+    let kind = rng.below(KINDS);
+    let broken = match rng.below(12) {
         0 => return settings.truncate(rng.below(settings.len())),
         1 => return settings.push(b'a'),
         2 => return settings[kind] = settings[kind].wrapping_add(rng.within(1, 255) as u8),
@@ -123,17 +126,35 @@ fn break_settings(settings: &mut Vec<u8>, rng: &mut Rng) {
         6 => vec![vec![b'a'; rng.within(33, 255)]],
         7 => vec![rng.one(&[&b"a/b"[..], b"/", b"\0", b"a\0", b"\xff", b"\xc3", b"\xe2\x82"]).to_vec()],
         8 if kind != EXTENSIONS => vec![Vec::new()],
+        10 => return *settings = five_counts(),
+        11 => return *settings = lay_settings(&with_imports(vec![b"imports".to_vec(); rng.one(&[0, 0, 2, 3, 255])])),
         _ => vec![b"a".to_vec(); MOST[kind] + rng.within(1, 200)],
     };
     let mut lists = example_settings();
     lists[kind] = broken;
-    *settings = crate::lent::lay_settings(&lists);
+    *settings = lay_settings(&lists);
+}
+
+/// The example settings with these imports fields.
+fn with_imports(texts: Vec<Vec<u8>>) -> Settings {
+    let mut lists = example_settings();
+    lists[IMPORTS_FIELDS] = texts;
+    lists
+}
+
+/// The example settings as they were before there was an imports field.
+fn five_counts() -> Vec<u8> {
+    let mut bytes = lay_settings(&with_imports(Vec::new()));
+    bytes.remove(IMPORTS_FIELDS);
+    bytes
 }
 
 fn not_bare(specifier: &[u8], rng: &mut Rng) -> Vec<u8> {
-    let prefix: &[&[u8]] = &[b"/", b"#", b"./", b"../", b"//"];
+    // "#" stands for a name that is refused only where the product does not take these.
+    let hash: &[u8] = if HASH_NAMES { b"/#" } else { b"#" };
+    let prefix: &[&[u8]] = &[b"/", hash, b"./", b"../", b"//"];
     match rng.below(6) {
-        0 => rng.one(&[&b""[..], b".", b"..", b"/", b"#", b"./", b"../", b"//"]).to_vec(),
+        0 => rng.one(&[&b""[..], b".", b"..", b"/", hash, b"./", b"../", b"//"]).to_vec(),
         1 => [rng.one(prefix), specifier].concat(),
         2 => {
             let mut long = specifier.to_vec();
@@ -183,7 +204,7 @@ pub fn at_a_limit(rng: &mut Rng) -> Case {
 /// Brings the world to a limit or one past it; the number that one past gives.
 fn reach_limit(world: &mut World, kind: usize, past: bool, rng: &mut Rng) -> u32 {
     let over = usize::from(past);
-    let setting = rng.below(5);
+    let setting = rng.below(KINDS);
     match kind {
         0 => pad_listing(&mut world.tree, 65_536 + over),
         1 => many_entries(&mut world.tree, 1_024 + over),
@@ -395,7 +416,7 @@ fn long_path(rng: &mut Rng) -> Case {
 }
 
 /// A relative path of exactly this length, in components of mixed lengths.
-fn named(length: usize, rng: &mut Rng) -> Vec<u8> {
+pub fn named(length: usize, rng: &mut Rng) -> Vec<u8> {
     let mut made = Vec::new();
     while made.len() < length {
         let left = length - made.len();
@@ -500,7 +521,24 @@ fn package(manifest: &[u8], files: &[&str], specifier: &str) -> World {
     world
 }
 
-/// The printed example, the marked ones, and RFC 8259's examples as manifests.
+/// The printed example with one imports field, none, more, and with a text at its limits and past them.
+fn imports_fields() -> Vec<Case> {
+    let text = |length: usize| vec![vec![b'i'; length]];
+    let lists = [
+        (vec![], 24),
+        (vec![b"imports".to_vec(); 2], 24),
+        (text(0), 24),
+        (text(1), 0),
+        (text(32), 0),
+        (text(33), 24),
+        (vec![b"a/b".to_vec()], 24),
+    ];
+    let mut all: Vec<(Vec<u8>, u32)> = lists.into_iter().map(|(texts, number)| (lay_settings(&with_imports(texts)), number)).collect();
+    all.push((five_counts(), 24));
+    all.into_iter().map(|(settings, number)| Case { settings, stated: Some(number), ..printed().case() }).collect()
+}
+
+/// The printed example, the marked ones, RFC 8259's examples as manifests, and the imports field of the settings.
 pub fn fixed() -> Vec<Case> {
     let stated = |world: World, number: u32| Case { stated: Some(number), ..world.case() };
     let mut all = vec![stated(printed(), 0)];
@@ -517,5 +555,6 @@ pub fn fixed() -> Vec<Case> {
     for example in RFC_EXAMPLES {
         all.push(stated(package(example.as_bytes(), &["index.js"], "m"), 0));
     }
+    all.extend(imports_fields());
     all
 }

@@ -2,7 +2,11 @@
 //! on purpose, at limits and past them. Case N of a seed is always the same.
 
 use crate::broken;
-use crate::lent::{EXPORTS_FIELDS, EXTENSIONS, MOST, Row, Settings, Tree, is_path, is_specifier, lay, lay_settings, name_of, parent, rows};
+use crate::hash;
+use crate::lent::{
+    EXPORTS_FIELDS, EXTENSIONS, HASH_NAMES, IMPORTS_FIELDS, MOST, Row, Settings, Tree, is_path, is_specifier, lay, lay_settings, name_of,
+    parent, rows,
+};
 use crate::manifests::{Around, SOME_REPEATS, damaged};
 use crate::model;
 use crate::product::Question;
@@ -117,8 +121,11 @@ impl World {
     }
 }
 
-/// Case `number` of `seed`.
+/// Case `number` of `seed`. Where the product takes names that begin with "#", every fourth case is of one.
 pub fn case(seed: u64, number: u64) -> Case {
+    if HASH_NAMES && number % 4 == 3 {
+        return hash::case(seed, number);
+    }
     let rng = &mut Rng::new(seed, number);
     match rng.below(100) {
         0..=44 => with_room(&grown(rng), rng),
@@ -159,7 +166,7 @@ fn limit(needed: usize, rng: &mut Rng) -> u32 {
 }
 
 /// The case with buffers longer than needed, just long enough, or short, and within a limit of consults.
-fn with_room(world: &World, rng: &mut Rng) -> Case {
+pub fn with_room(world: &World, rng: &mut Rng) -> Case {
     let mut case = world.case();
     let short = if rng.chance(50) { 1 } else { rng.within(1, 400) };
     (case.room, case.stated) = match rng.below(40) {
@@ -232,7 +239,7 @@ pub fn specifier(rng: &mut Rng) -> Vec<u8> {
         8 => [rng.text(PACKAGES), rng.text(SUBPATHS), rng.text(SUBPATHS)].concat(),
         _ => (0..rng.within(1, 9)).flat_map(|_| rng.text(PIECES).to_vec()).collect(),
     };
-    if is_specifier(&made) { made } else { b"mat/steel".to_vec() }
+    if is_specifier(&made, false) { made } else { b"mat/steel".to_vec() }
 }
 
 fn texts(from: &[&str], count: usize, rng: &mut Rng) -> Vec<Vec<u8>> {
@@ -240,7 +247,7 @@ fn texts(from: &[&str], count: usize, rng: &mut Rng) -> Vec<Vec<u8>> {
 }
 
 pub fn example_settings() -> Settings {
-    ["import", ".js", "main", "index", "exports"].map(|text| vec![text.as_bytes().to_vec()])
+    ["import", ".js", "main", "index", "exports", "imports"].map(|text| vec![text.as_bytes().to_vec()])
 }
 
 pub fn settings(rng: &mut Rng) -> Settings {
@@ -255,7 +262,7 @@ pub fn settings(rng: &mut Rng) -> Settings {
         &["exports", "x", "main", "exportsé"],
     ];
     let mut made: Settings = Default::default();
-    for kind in 0..5 {
+    for kind in 0..IMPORTS_FIELDS {
         let most = if rng.chance(10) { MOST[kind] } else { MOST[kind].min(3) };
         let count = if rng.chance(8) { 0 } else { rng.within(1, most) };
         made[kind] = texts(pools[kind], count, rng);
@@ -263,6 +270,7 @@ pub fn settings(rng: &mut Rng) -> Settings {
     if made[EXTENSIONS].is_empty() && rng.chance(80) {
         made[EXTENSIONS].push(b".js".to_vec());
     }
+    made[IMPORTS_FIELDS] = texts(&["imports", "imports", "x", "exports", "é", "main", "name", "#"], 1, &mut rng.beside(0x696d_706f));
     made
 }
 

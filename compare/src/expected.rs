@@ -2,7 +2,7 @@
 //! list from the Rust, refusals 40 and 42 from the harness's own walk, 53 from the length of the list, and 20 and 21 from the buffers' lengths.
 
 use crate::cases::{Case, Room};
-use crate::lent::{Settings, Tree, is_specifier, read_listing, read_settings};
+use crate::lent::{HASH_NAMES, Settings, Tree, is_hash, is_specifier, read_listing, read_settings};
 use crate::model::{self, Consult, End, Walked};
 use crate::points::Marks;
 use crate::product::{Left, Rooms};
@@ -16,12 +16,16 @@ pub struct Accepted {
 
 /// The refusals before the lookup, in document 01's order: 25, 24, 30, 31, 32, 22, 23.
 pub fn accept(case: &Case, work: usize) -> Result<Accepted, u32> {
+    accept_names(case, work, HASH_NAMES)
+}
+
+fn accept_names(case: &Case, work: usize, hash_names: bool) -> Result<Accepted, u32> {
     if work < 32_768 {
         return Err(25);
     }
     let settings = read_settings(&case.settings).ok_or(24u32)?;
     let tree = read_listing(&case.listing)?;
-    if !is_specifier(&case.specifier) {
+    if !is_specifier(&case.specifier, hash_names) {
         return Err(22);
     }
     if tree.get(&case.start) != Some(&None) {
@@ -103,14 +107,23 @@ pub fn expected(case: &Case) -> Result<Expected, String> {
     decide(case, case.work(), rust::AT_HAND)
 }
 
+/// The same where names that begin with "#" are taken, whether or not the product does.
+pub fn expected_of_hash(case: &Case) -> Result<Expected, String> {
+    decide_names(case, case.work(), rust::AT_HAND, true)
+}
+
 pub fn decide(case: &Case, work: usize, beside_rust: bool) -> Result<Expected, String> {
-    match accept(case, work) {
+    decide_names(case, work, beside_rust, HASH_NAMES)
+}
+
+fn decide_names(case: &Case, work: usize, beside_rust: bool, hash_names: bool) -> Result<Expected, String> {
+    match accept_names(case, work, hash_names) {
         Err(number) => Ok(Expected { end: End { number, texts: Vec::new() }, list: Vec::new(), by: By::Scope, marks: None }),
         Ok(accepted) => {
             let walk = |limit| model::lookup(&accepted.tree, &accepted.settings, &case.start, &case.specifier, limit);
             let walked = walk(usize::MAX);
             let bound = model::formula(&accepted.tree, &accepted.settings, &case.start);
-            if walked.list.len() > bound {
+            if walked.list.len() > bound && !is_hash(&case.specifier) {
                 return Err(format!("a list of {} consults, over the formula's {bound}", walked.list.len()));
             }
             let whole = looked_up(case, &accepted, walked, beside_rust)?;

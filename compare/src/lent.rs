@@ -11,12 +11,14 @@ pub const EXTENSIONS: usize = 1;
 pub const MAIN_FIELDS: usize = 2;
 pub const MAIN_FILES: usize = 3;
 pub const EXPORTS_FIELDS: usize = 4;
+pub const IMPORTS_FIELDS: usize = 5;
+pub const KINDS: usize = 6;
 
-/// The most texts of each kind.
-pub const MOST: [usize; 5] = [8, 8, 4, 4, 2];
+/// The most texts of each kind. There is always one imports field.
+pub const MOST: [usize; KINDS] = [8, 8, 4, 4, 2, 1];
 
 /// Texts by kind.
-pub type Settings = [Vec<Vec<u8>>; 5];
+pub type Settings = [Vec<Vec<u8>>; KINDS];
 
 pub const DIRECTORY: u32 = 0xFFFF_FFFF;
 
@@ -135,12 +137,12 @@ pub fn read_listing(listing: &[u8]) -> Result<Tree, u32> {
 
 /// The settings; none where they are refused as 24.
 pub fn read_settings(settings: &[u8]) -> Option<Settings> {
-    let counts: Vec<usize> = settings.get(..5)?.iter().map(|&b| usize::from(b)).collect();
-    let mut lengths = settings.get(5..5 + counts.iter().sum::<usize>())?.iter();
-    let mut rest = &settings[5 + lengths.len()..];
+    let counts: Vec<usize> = settings.get(..KINDS)?.iter().map(|&b| usize::from(b)).collect();
+    let mut lengths = settings.get(KINDS..KINDS + counts.iter().sum::<usize>())?.iter();
+    let mut rest = &settings[KINDS + lengths.len()..];
     let mut read: Settings = Default::default();
-    for kind in 0..5 {
-        if counts[kind] > MOST[kind] {
+    for kind in 0..KINDS {
+        if counts[kind] > MOST[kind] || (kind == IMPORTS_FIELDS && counts[kind] != 1) {
             return None;
         }
         for _ in 0..counts[kind] {
@@ -156,9 +158,16 @@ pub fn read_settings(settings: &[u8]) -> Option<Settings> {
     rest.is_empty().then_some(read)
 }
 
-/// A bare specifier within its limit; any other is refused as 22.
-pub fn is_specifier(specifier: &[u8]) -> bool {
+/// Whether the product takes names that begin with "#"; where it does not, it refuses them as 22, and only `compare hash` makes them.
+pub const HASH_NAMES: bool = false;
+
+pub fn is_hash(specifier: &[u8]) -> bool {
+    specifier.starts_with(b"#")
+}
+
+/// A bare specifier within its limit, or one that begins with "#" where these are taken; any other is refused as 22.
+pub fn is_specifier(specifier: &[u8], hash_names: bool) -> bool {
     let first = specifier.split(|&b| b == b'/').next().unwrap_or(b"");
-    let bare = !matches!(first, b"" | b"." | b"..") && first[0] != b'#';
-    bare && specifier.len() <= 512 && !specifier.contains(&0) && is_utf8(specifier)
+    let named = !matches!(first, b"" | b"." | b"..") && (hash_names || !is_hash(specifier));
+    named && specifier.len() <= 512 && !specifier.contains(&0) && is_utf8(specifier)
 }

@@ -2,17 +2,19 @@
 //!
 //!   compare cases N [SEED]      N distinct cases: number, texts, the whole list, every byte of every buffer
 //!   compare repeats N [SEED]    N distinct cases that the Rust decides, in each of which a name comes twice in an object that is looked at
+//!   compare hash N [SEED]       N distinct cases of names that begin with "#"; where the product does not take them, the walk beside the Rust
 //!   compare pairs N [SEED]      N pairs of listings that agree where a lookup looked (demand 3)
 //!   compare garbage N [SEED]    N calls with damaged and random bytes and buffer lengths (demand 1)
 //!   compare vectors FILE        writes chosen cases with the Rust's answers
 //!   compare replay FILE         replays them through the product
 //!   compare real FOLDER [FILE]  a real tree's dependencies; FILE holds what Node.js resolves (compare/resolve.mjs)
-//!   compare one NUMBER [SEED]   one case, in words
+//!   compare one NUMBER [SEED]   one case, in words; one-hash a case of `hash`
 
 mod broken;
 mod cases;
 mod expected;
 mod garbage;
+mod hash;
 mod json;
 mod lent;
 mod manifests;
@@ -29,15 +31,17 @@ mod vectors;
 
 use cases::Case;
 use expected::{By, Expected};
+use lent::HASH_NAMES;
 use points::Point;
 use product::Left;
 use std::collections::{BTreeMap, HashSet};
 use std::hash::{DefaultHasher, Hash, Hasher};
+use std::ops::RangeInclusive;
 use std::process::ExitCode;
 
 const SEED: u64 = 1;
 
-pub fn hash(case: &Case) -> u64 {
+pub fn fingerprint(case: &Case) -> u64 {
     let mut hasher = DefaultHasher::new();
     case.hash(&mut hasher);
     hasher.finish()
@@ -54,6 +58,9 @@ struct Report {
     /// Cases decided by the Rust, or by the walk in its place, that look at an object in which a name comes twice.
     repeated: u64,
     faults: u64,
+    /// Whether names that begin with "#" are asked, and whether the product is.
+    hash: bool,
+    product: bool,
 }
 
 fn shown(bytes: &[u8]) -> String {
@@ -100,7 +107,7 @@ fn print_list(numbers: &[u32], text: &[u8]) {
 
 impl Report {
     fn new() -> Self {
-        Self { marks: points::no_marks(), ..Self::default() }
+        Self { marks: points::no_marks(), product: true, ..Self::default() }
     }
 
     fn fault(&mut self, number: &str, case: &Case, words: &str) {
@@ -113,10 +120,11 @@ impl Report {
 
     /// Asks one case of everyone; false where it was seen before.
     fn ask(&mut self, number: &str, case: &Case) -> bool {
-        if !self.distinct.insert(hash(case)) {
+        if !self.distinct.insert(fingerprint(case)) {
             return false;
         }
-        match expected::expected(case) {
+        let expected = if self.hash { expected::expected_of_hash(case) } else { expected::expected(case) };
+        match expected {
             Err(words) => self.fault(number, case, &words),
             Ok(expected) => self.compare(number, case, &expected),
         }
@@ -126,7 +134,7 @@ impl Report {
     fn compare(&mut self, number: &str, case: &Case, expected: &Expected) {
         let rooms = expected::rooms(expected, case.room);
         let want = expected::left(expected, rooms);
-        let got = product::call(case.question(), rooms);
+        let got = if self.product { product::call(case.question(), rooms) } else { want.clone() };
         if case.stated.is_some_and(|stated| stated != want.number) {
             self.fault(number, case, &format!("made to give {:?}, but {} is worked out", case.stated, want.number));
         }
@@ -151,7 +159,7 @@ impl Report {
         *self.by.entry(by).or_default() += 1;
         self.longest = self.longest.max(expected.list.len());
         let repeated = expected.marks.as_ref().is_some_and(|marks| marks[Point::Repeated as usize] > 0);
-        self.repeated += u64::from(repeated && want.number < 8 && matches!(expected.by, By::Rust | By::Walk));
+        self.repeated += u64::from(repeated && model::is_answer(want.number) && matches!(expected.by, By::Rust | By::Walk));
         for (sum, reached) in self.marks.iter_mut().zip(expected.marks.iter().flatten()) {
             *sum += u64::from(*reached > 0);
         }
@@ -177,9 +185,17 @@ impl Report {
 /// What a run of a million cases must at least have seen.
 fn wanted(report: &Report, count: u64) -> bool {
     let numbers = [(0..=7, 5_000), (20..=25, 500), (30..=32, 500), (40..=40, 500), (42..=42, 500), (53..=53, 20_000)];
+    let good = enough(report, &numbers, count);
+    let hash = [(50..=51, 2_000), (56..=56, 1_000)];
+    let good = good & (!HASH_NAMES || enough(report, &hash, count));
+    good & reached(report, |point| HASH_NAMES || !points::of_hash_names(point))
+}
+
+/// Whether a run saw so many cases of each number, for a million cases.
+fn enough(report: &Report, numbers: &[(RangeInclusive<u32>, u64)], count: u64) -> bool {
     let mut good = true;
     for (range, least) in numbers {
-        for number in range {
+        for number in range.clone() {
             let seen = report.numbers.get(&number).copied().unwrap_or(0);
             if seen < least * count / 1_000_000 {
                 println!("too few cases of {number}: {seen}");
@@ -187,19 +203,21 @@ fn wanted(report: &Report, count: u64) -> bool {
             }
         }
     }
-    for (words, &seen) in points::POINTS.iter().zip(&report.marks) {
-        if seen == 0 {
-            println!("not reached: {words}");
-            good = false;
-        }
-    }
     good
+}
+
+/// Whether a run reached each of these points.
+fn reached(report: &Report, due: fn(usize) -> bool) -> bool {
+    let missed: Vec<usize> = (0..report.marks.len()).filter(|&point| report.marks[point] == 0 && due(point)).collect();
+    missed.iter().for_each(|&point| println!("not reached: {}", points::POINTS[point]));
+    missed.is_empty()
 }
 
 fn compare(count: u64, seed: u64) -> bool {
     let mut report = Report::new();
     println!("{}", if rust::AT_HAND { "beside the Rust" } else { "the Rust is not at hand: the harness's own walk stands in its place" });
-    for (i, case) in broken::fixed().iter().enumerate() {
+    let hash = if HASH_NAMES { hash::fixed() } else { Vec::new() };
+    for (i, case) in broken::fixed().iter().chain(&hash).enumerate() {
         report.ask(&format!("fixed {i}"), case);
     }
     let mut number = 0;
@@ -231,10 +249,28 @@ fn repeats(count: u64, seed: u64) -> bool {
     few.is_none() && report.repeated >= count && report.faults == 0
 }
 
-fn one(number: u64, seed: u64) -> bool {
-    let case = cases::case(seed, number);
+/// Cases of names that begin with "#", over trees made for them.
+fn hash_names(count: u64, seed: u64) -> bool {
+    let mut report = Report { hash: true, product: HASH_NAMES, ..Report::new() };
+    println!("{}", if HASH_NAMES { "the product beside the Rust" } else { "the harness's own walk beside the Rust, without the product" });
+    for (i, case) in hash::fixed().iter().enumerate() {
+        report.ask(&format!("fixed {i}"), case);
+    }
+    let mut number = 0;
+    while (report.distinct.len() as u64) < count {
+        report.ask(&number.to_string(), &hash::case(seed, number));
+        number += 1;
+    }
+    report.print();
+    let numbers = [(0..=7, 1_000), (50..=51, 5_000), (56..=56, 1_000), (40..=40, 500), (42..=42, 500), (53..=53, 20_000)];
+    let good = enough(&report, &numbers, count) & reached(&report, points::of_hash_names);
+    good && report.faults == 0
+}
+
+fn one(number: u64, seed: u64, hash: bool) -> bool {
+    let case = if hash { hash::case(seed, number) } else { cases::case(seed, number) };
     print_case(&case);
-    match expected::expected(&case) {
+    match if hash { expected::expected_of_hash(&case) } else { expected::expected(&case) } {
         Err(words) => println!("  {words}"),
         Ok(expected) => {
             let rooms = expected::rooms(&expected, case.room);
@@ -266,7 +302,9 @@ fn run() -> Option<bool> {
         "repeats" => repeats(number(1, 300_000)?, seed),
         "pairs" => pairs::run(number(1, 20_000)?, seed),
         "garbage" => garbage::run(number(1, 1_000_000)?, seed),
-        "one" => one(number(1, 0)?, seed),
+        "hash" => hash_names(number(1, 300_000)?, seed),
+        "one" => one(number(1, 0)?, seed, false),
+        "one-hash" => one(number(1, 0)?, seed, true),
         _ => return None,
     })
 }
@@ -279,7 +317,7 @@ fn main() -> ExitCode {
         Some(false) => ExitCode::FAILURE,
         None => {
             eprintln!(
-                "compare cases N [SEED] | repeats N [SEED] | pairs N [SEED] | garbage N [SEED] | vectors FILE | replay FILE | real FOLDER [FILE] | one NUMBER [SEED]"
+                "compare cases N [SEED] | repeats N [SEED] | hash N [SEED] | pairs N [SEED] | garbage N [SEED] | vectors FILE | replay FILE | real FOLDER [FILE] | one NUMBER [SEED] | one-hash NUMBER [SEED]"
             );
             ExitCode::FAILURE
         }

@@ -197,7 +197,7 @@ impl Around<'_> {
     }
 
     /// The value, in some cases with names that come more than once, in objects of every kind.
-    fn with_repeats(&self, mut value: Value, rng: &mut Rng) -> Value {
+    pub fn with_repeats(&self, mut value: Value, rng: &mut Rng) -> Value {
         if rng.chance(self.repeats) {
             let subpath = dot_subpath(&self.specifier[package_name(self.specifier).len()..]);
             self.repeat(&mut value, &subpath, 0, rng);
@@ -430,7 +430,7 @@ pub fn scalar(rng: &mut Rng) -> Value {
     Value::Raw(rng.one(&["null", "null", "true", "false", "0", "-1", "1.5", "1e999", "-0.0E-7", "123456789012345678901234567890"]))
 }
 
-fn without_repeats(members: Vec<(Vec<u8>, Value)>) -> Value {
+pub fn without_repeats(members: Vec<(Vec<u8>, Value)>) -> Value {
     let mut kept: Vec<(Vec<u8>, Value)> = Vec::new();
     for member in members {
         if !kept.iter().any(|known| known.0 == member.0) {
@@ -441,7 +441,7 @@ fn without_repeats(members: Vec<(Vec<u8>, Value)>) -> Value {
 }
 
 /// A place where the text may be cut and stays UTF-8, not before `from`.
-fn boundary(text: &[u8], from: usize, rng: &mut Rng) -> usize {
+pub fn boundary(text: &[u8], from: usize, rng: &mut Rng) -> usize {
     let from = from.min(text.len());
     let places: Vec<usize> = (from..=text.len()).filter(|&i| i == text.len() || text[i] & 0xC0 != 0x80).collect();
     rng.one(&places)
@@ -455,7 +455,7 @@ fn starred(text: &[u8], rng: &mut Rng) -> Vec<u8> {
 }
 
 /// The text up to one of its slashes.
-fn folder(text: &[u8], rng: &mut Rng) -> Vec<u8> {
+pub fn folder(text: &[u8], rng: &mut Rng) -> Vec<u8> {
     let slashes: Vec<usize> = (0..text.len()).filter(|&i| text[i] == b'/').collect();
     if slashes.is_empty() { b"./".to_vec() } else { text[..=rng.one(&slashes)].to_vec() }
 }

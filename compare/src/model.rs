@@ -2,10 +2,11 @@
 //! branches a case reaches. It is trusted with neither alone: on every case without such a refusal its answer and list must be
 //! the Rust's own.
 //!
-//! Routines have the Rust's names. One that ends the lookup gives `Err`; one that comes back has found nothing.
+//! Routines have the Rust's names, and the context is the Rust's: query and fragment so far, and how many relative steps were made. A
+//! routine that ends the lookup gives `Err`, for a found file too; one that comes back has found nothing.
 
 use crate::json::{self, Json, Member};
-use crate::lent::{CONDITIONS, EXPORTS_FIELDS, EXTENSIONS, MAIN_FIELDS, MAIN_FILES, Settings, Tree, parent};
+use crate::lent::{CONDITIONS, EXPORTS_FIELDS, EXTENSIONS, IMPORTS_FIELDS, MAIN_FIELDS, MAIN_FILES, Settings, Tree, is_hash, parent};
 use crate::names::*;
 use crate::points::{Marks, Point, no_marks};
 use std::rc::Rc;
@@ -23,8 +24,13 @@ impl End {
     }
 
     pub fn is_refusal(&self) -> bool {
-        self.number >= 20
+        !is_answer(self.number)
     }
+}
+
+/// Whether the number is an answer's: 0 to 7 and, for names that begin with "#", 50, 51 and 56.
+pub fn is_answer(number: u32) -> bool {
+    matches!(number, 0..=7 | 50 | 51 | 56)
 }
 
 pub struct Consult {
@@ -40,15 +46,18 @@ pub struct Walked {
 
 /// The lookup, which may make `limit` consults.
 pub fn lookup(tree: &Tree, settings: &Settings, start: &[u8], specifier: &[u8], limit: usize) -> Walked {
-    let mut walk = Walk { tree, settings, limit, list: Vec::new(), marks: no_marks(), read: Vec::new() };
-    let end = match walk.load_package_self_or_node_modules(start, specifier) {
+    let context = Context::default();
+    let mut walk = Walk { tree, settings, limit, list: Vec::new(), marks: no_marks(), read: Vec::new(), context };
+    let hash = is_hash(specifier);
+    let walked = if hash { walk.require_hash(start, specifier) } else { walk.load_package_self_or_node_modules(start, specifier) };
+    let end = match walked {
         Err(end) => end,
         Ok(never) => match never {},
     };
     Walked { end, list: walk.list, marks: walk.marks }
 }
 
-/// Document 01's bound on the list's length, d + 2dW.
+/// Document 01's bound on the length of a bare name's list, d + 2dW.
 pub fn formula(tree: &Tree, settings: &Settings, start: &[u8]) -> usize {
     let d = directories(start).len();
     let heights = tree.iter().filter(|entry| entry.1.is_none()).map(|entry| directories(entry.0).len());
@@ -61,18 +70,15 @@ type Look<T> = Result<T, End>;
 
 enum Never {}
 
-/// A path with the query and fragment that go with it.
-#[derive(Clone, Default)]
-struct Place {
-    path: Vec<u8>,
+/// context.rs: the query and fragment that go with the path to be found, and the relative steps made, in a byte.
+#[derive(Default)]
+struct Context {
     query: Vec<u8>,
     fragment: Vec<u8>,
-}
-
-impl Place {
-    fn at(&self, path: Vec<u8>) -> Self {
-        Self { path, ..self.clone() }
-    }
+    depth: u8,
+    /// Which target gave the fragment: how many had been parsed.
+    fragment_of: usize,
+    parsed: usize,
 }
 
 struct Scope {
@@ -85,6 +91,7 @@ struct Request<'a> {
     directory: &'a [u8],
     key: &'a [u8],
     matched: Option<&'a [u8]>,
+    imports: bool,
 }
 
 struct Walk<'a> {
@@ -95,6 +102,7 @@ struct Walk<'a> {
     marks: Marks,
     /// Manifests already taken apart, by path.
     read: Vec<(Vec<u8>, Result<Rc<Json>, u32>)>,
+    context: Context,
 }
 
 fn get<'a>(members: &'a [Member], name: &[u8]) -> Option<&'a Json> {
@@ -277,8 +285,8 @@ impl Walk<'_> {
     }
 
     fn by_exports(&mut self, specifier: &[u8], directory: &[u8], subpath: &[u8], exports: &Json) -> Look<Never> {
-        let place = self.package_exports_resolve(directory, &dot_subpath(subpath), exports)?;
-        self.resolve_esm_match(specifier, &place)
+        let path = self.package_exports_resolve(directory, &dot_subpath(subpath), exports)?;
+        self.resolve_esm_match(specifier, &path)
     }
 
     fn load_node_modules(&mut self, start: &[u8], specifier: &[u8]) -> Look<()> {
@@ -319,16 +327,16 @@ impl Walk<'_> {
     }
 
     fn in_package(&mut self, specifier: &[u8], name: &[u8], modules: &[u8]) -> Look<()> {
-        let place = Place { path: self.normalize_with(modules, specifier)?, ..Place::default() };
+        let path = self.normalize_with(modules, specifier)?;
         if specifier != name && !specifier.ends_with(b"/") {
-            self.load_as_file(&place)?;
+            self.load_as_file(&path)?;
         }
         self.mark_if(specifier.ends_with(b"/"), Point::FirstFileSkipped);
-        if self.is_dir(&place.path)? {
-            return self.load_as_directory(&place);
+        if self.is_dir(&path)? {
+            return self.load_as_directory(&path);
         }
         self.mark(Point::FileForNoDirectory);
-        self.load_as_file(&place)
+        self.load_as_file(&path)
     }
 
     fn load_package_exports(&mut self, specifier: &[u8], subpath: &[u8], package: &[u8]) -> Look<()> {
@@ -344,58 +352,58 @@ impl Walk<'_> {
         match self.by_exports(specifier, package, subpath, exports)? {}
     }
 
-    fn try_file(&mut self, place: &Place, point: Point) -> Look<()> {
-        if self.is_file(&place.path)? {
+    fn try_file(&mut self, path: &[u8], point: Point) -> Look<()> {
+        if self.is_file(path)? {
             self.mark(point);
-            return Err(End::new(0, &[&place.path, &place.query, &place.fragment]));
+            return Err(End::new(0, &[path, &self.context.query, &self.context.fragment]));
         }
         Ok(())
     }
 
-    fn load_as_file(&mut self, place: &Place) -> Look<()> {
-        self.try_file(place, Point::FileFound)?;
+    fn load_as_file(&mut self, path: &[u8]) -> Look<()> {
+        self.try_file(path, Point::FileFound)?;
         for extension in &self.settings[EXTENSIONS] {
-            let path = self.limited([&place.path[..], extension].concat())?;
-            self.try_file(&place.at(path), Point::ExtensionFound)?;
+            let path = self.limited([path, extension].concat())?;
+            self.try_file(&path, Point::ExtensionFound)?;
         }
         Ok(())
     }
 
-    fn load_index(&mut self, place: &Place) -> Look<()> {
-        self.mark_if(place.path == b"/", Point::IndexUnderRoot);
+    fn load_index(&mut self, path: &[u8]) -> Look<()> {
+        self.mark_if(path == b"/", Point::IndexUnderRoot);
         let mut point = Point::IndexFound;
         for main_file in &self.settings[MAIN_FILES] {
             for extension in &self.settings[EXTENSIONS] {
-                let path = self.limited([&place.path[..], b"/", main_file, extension].concat())?;
-                self.try_file(&place.at(path), point)?;
+                let path = self.limited([path, b"/", main_file, extension].concat())?;
+                self.try_file(&path, point)?;
                 point = Point::IndexLater;
             }
         }
         Ok(())
     }
 
-    fn load_as_directory(&mut self, place: &Place) -> Look<()> {
-        if let Some(manifest) = self.get_package_json(&place.path)? {
+    fn load_as_directory(&mut self, path: &[u8]) -> Look<()> {
+        if let Some(manifest) = self.get_package_json(path)? {
             for (i, name) in self.settings[MAIN_FIELDS].iter().enumerate() {
                 if let Some(main) = text_field(&manifest, name) {
-                    self.load_main(place, main, i)?;
+                    self.load_main(path, main, i)?;
                 }
             }
         }
-        self.load_index(place)
+        self.load_index(path)
     }
 
-    fn load_main(&mut self, place: &Place, main: &[u8], number: usize) -> Look<()> {
+    fn load_main(&mut self, path: &[u8], main: &[u8], number: usize) -> Look<()> {
         self.mark(Point::DirectoryMain);
         self.mark_if(main.is_empty(), Point::DirectoryMainEmpty);
         self.mark_if(main.starts_with(b"/"), Point::DirectoryMainAbsolute);
         self.mark_if(parts(main).any(|part| part == b".."), Point::DirectoryMainClimbs);
         let below = if main.is_empty() || main.starts_with(b"/") { [b"./", main].concat() } else { main.to_vec() };
-        let place = place.at(self.normalize_with(&place.path, &below)?);
-        let as_file = self.load_as_file(&place);
+        let path = self.normalize_with(path, &below)?;
+        let as_file = self.load_as_file(&path);
         self.mark_main(&as_file, Point::DirectoryMainFound, number);
         as_file?;
-        let index = self.load_index(&place);
+        let index = self.load_index(&path);
         self.mark_main(&index, Point::DirectoryMainIndex, number);
         index
     }
@@ -406,13 +414,13 @@ impl Walk<'_> {
         self.mark_if(found && number > 0, Point::DirectoryLaterMain);
     }
 
-    fn resolve_esm_match(&mut self, specifier: &[u8], place: &Place) -> Look<Never> {
-        let as_file = self.load_as_file(place);
+    fn resolve_esm_match(&mut self, specifier: &[u8], path: &[u8]) -> Look<Never> {
+        let as_file = self.load_as_file(path);
         self.mark_if(as_file.as_ref().is_err_and(|end| end.number == 0), Point::MatchFile);
         as_file?;
-        if self.is_dir(&place.path)? {
+        if self.is_dir(path)? {
             self.mark(Point::MatchDirectory);
-            self.load_as_directory(place)?;
+            self.load_as_directory(path)?;
         }
         self.mark(Point::MatchNotFound);
         Err(End::new(1, &[specifier]))
@@ -420,7 +428,7 @@ impl Walk<'_> {
 
     // ------------------------------------------------------------ exports
 
-    fn package_exports_resolve(&mut self, directory: &[u8], subpath: &[u8], exports: &Json) -> Look<Place> {
+    fn package_exports_resolve(&mut self, directory: &[u8], subpath: &[u8], exports: &Json) -> Look<Vec<u8>> {
         if let Json::Object(members) = exports {
             if members.iter().any(|member| is_dot_key(&member.name)) {
                 self.mark_repeats(members, Point::RepeatedKey);
@@ -431,58 +439,59 @@ impl Walk<'_> {
                 return Err(End::new(5, &[&manifest_of(directory)]));
             }
         }
-        let mut context = Place::default();
-        if subpath == b"." {
-            self.main_export(directory, exports, &mut context)?;
-        }
-        if let (true, Json::Object(members)) = (context.path.is_empty(), exports) {
-            self.package_imports_exports_resolve(directory, subpath, members, &mut context)?;
+        let mut found = if subpath == b"." { self.main_export(directory, exports)? } else { None };
+        if let (None, Json::Object(members)) = (&found, exports) {
+            found = self.package_imports_exports_resolve(directory, subpath, members, false)?;
         }
         self.mark_if(matches!(exports, Json::Scalar), Point::ExportsScalar);
-        if context.path.is_empty() {
+        found.ok_or_else(|| {
             self.mark(Point::ExportsNotExported);
-            return Err(End::new(4, &[subpath, directory]));
-        }
-        Ok(context)
+            End::new(4, &[subpath, directory])
+        })
     }
 
-    fn main_export(&mut self, directory: &[u8], exports: &Json, context: &mut Place) -> Look<()> {
+    fn main_export(&mut self, directory: &[u8], exports: &Json) -> Look<Option<Vec<u8>>> {
         let target = match exports {
-            Json::Scalar => return Ok(()),
+            Json::Scalar => return Ok(None),
             Json::Text(_) | Json::Array(_) => (exports, Point::ExportsDotText),
             Json::Object(members) => match get(members, b".") {
                 Some(target) => (target, Point::ExportsDotKey),
-                None if members.iter().any(|member| is_subpath_key(&member.name)) => return Ok(()),
+                None if members.iter().any(|member| is_subpath_key(&member.name)) => return Ok(None),
                 None => (exports, Point::ExportsDotConditions),
             },
         };
         self.mark(target.1);
-        let request = Request { directory, key: b".", matched: None };
-        let found = self.package_target_resolve(&request, target.0, context, 0)?;
-        self.mark_if(!found, Point::ExportsDotNothing);
-        Ok(())
+        let request = Request { directory, key: b".", matched: None, imports: false };
+        let found = self.package_target_resolve(&request, target.0, 0)?;
+        self.mark_if(found.is_none(), Point::ExportsDotNothing);
+        Ok(found)
     }
 
-    fn package_imports_exports_resolve(&mut self, directory: &[u8], asked: &[u8], members: &[Member], context: &mut Place) -> Look<()> {
+    /// The path that the chosen key's target gives, if any.
+    fn package_imports_exports_resolve(
+        &mut self,
+        directory: &[u8],
+        asked: &[u8],
+        members: &[Member],
+        imports: bool,
+    ) -> Look<Option<Vec<u8>>> {
         if asked.ends_with(b"/") {
             self.mark(Point::KeySlash);
-            return Ok(());
+            return Ok(None);
         }
         self.mark_if(asked.contains(&b'*'), Point::KeyStarAsked);
         if let Some(target) = get(members, asked).filter(|_| !asked.contains(&b'*')) {
             self.mark(Point::KeyLiteral);
-            let request = Request { directory, key: asked, matched: None };
-            self.package_target_resolve(&request, target, context, 0)?;
-            return Ok(());
+            let request = Request { directory, key: asked, matched: None, imports };
+            return self.package_target_resolve(&request, target, 0);
         }
         let Some((member, matched)) = self.best_key(asked, members) else {
             self.mark(Point::KeyNone);
-            return Ok(());
+            return Ok(None);
         };
         self.mark_key(&member.name, matched);
-        let request = Request { directory, key: &member.name, matched: Some(matched) };
-        self.package_target_resolve(&request, &member.value, context, 0)?;
-        Ok(())
+        let request = Request { directory, key: &member.name, matched: Some(matched), imports };
+        self.package_target_resolve(&request, &member.value, 0)
     }
 
     fn mark_key(&mut self, key: &[u8], matched: &[u8]) {
@@ -520,21 +529,21 @@ impl Walk<'_> {
         new.len() > known.len()
     }
 
-    /// Whether the target gives a path, which is left in the context with its query and fragment.
-    fn package_target_resolve(&mut self, request: &Request, target: &Json, context: &mut Place, depth: usize) -> Look<bool> {
+    /// The path that the target gives, if any; its query and fragment are left in the context.
+    fn package_target_resolve(&mut self, request: &Request, target: &Json, depth: usize) -> Look<Option<Vec<u8>>> {
         self.mark_if(depth == 4, Point::TargetDeep);
         match target {
-            Json::Text(text) => self.string_target(request, text, context),
-            Json::Object(members) => self.conditions(request, members, context, depth),
-            Json::Array(elements) => self.elements(request, elements, context, depth),
+            Json::Text(text) => self.string_target(request, text),
+            Json::Object(members) => self.conditions(request, members, depth),
+            Json::Array(elements) => self.elements(request, elements, depth),
             Json::Scalar => {
                 self.mark(Point::TargetScalar);
-                Ok(false)
+                Ok(None)
             }
         }
     }
 
-    fn conditions(&mut self, request: &Request, members: &[Member], context: &mut Place, depth: usize) -> Look<bool> {
+    fn conditions(&mut self, request: &Request, members: &[Member], depth: usize) -> Look<Option<Vec<u8>>> {
         self.mark_repeats(members, if depth == 0 { Point::RepeatedCondition } else { Point::RepeatedDeep });
         for member in members {
             if member.name == b"default" {
@@ -545,40 +554,56 @@ impl Walk<'_> {
                 self.mark(Point::TargetConditionSkipped);
                 continue;
             }
-            if self.package_target_resolve(request, &member.value, context, depth + 1)? {
-                return Ok(true);
+            let found = self.package_target_resolve(request, &member.value, depth + 1)?;
+            if found.is_some() {
+                return Ok(found);
             }
             self.mark(Point::TargetConditionNull);
         }
-        Ok(false)
+        Ok(None)
     }
 
-    fn elements(&mut self, request: &Request, elements: &[Json], context: &mut Place, depth: usize) -> Look<bool> {
+    fn elements(&mut self, request: &Request, elements: &[Json], depth: usize) -> Look<Option<Vec<u8>>> {
         let Some((last, others)) = elements.split_last() else {
             self.mark(Point::TargetArrayEmpty);
             return Err(End::new(4, &[request.matched.unwrap_or(b"."), request.directory]));
         };
         self.mark(Point::TargetArray);
         for element in others {
-            match self.package_target_resolve(request, element, context, depth + 1) {
-                Ok(true) => return Ok(true),
-                Ok(false) => self.mark(Point::TargetArrayNull),
+            match self.package_target_resolve(request, element, depth + 1) {
+                Ok(Some(path)) => return Ok(Some(path)),
+                Ok(None) => self.mark(Point::TargetArrayNull),
                 Err(end) if end.is_refusal() => {
                     self.mark(Point::TargetArrayRefused);
                     return Err(end);
                 }
-                Err(_) => self.mark(Point::TargetArrayDrops),
+                Err(end) => {
+                    self.mark(Point::TargetArrayDrops);
+                    self.mark_if(end.number == 56, Point::TargetArrayRecursion);
+                }
             }
         }
-        self.package_target_resolve(request, last, context, depth + 1)
+        match self.package_target_resolve(request, last, depth + 1) {
+            // A package that is not found leaves nothing.
+            Err(end) if end.number == 1 => {
+                self.mark(Point::TargetArrayNotFound);
+                Ok(None)
+            }
+            found => found,
+        }
     }
 
-    fn string_target(&mut self, request: &Request, text: &[u8], context: &mut Place) -> Look<bool> {
+    fn string_target(&mut self, request: &Request, text: &[u8]) -> Look<Option<Vec<u8>>> {
         let Some(parsed) = parse_specifier(text) else {
             self.mark(Point::TargetEmpty);
             return Err(End::new(2, &[text]));
         };
-        self.with_query_fragment(&parsed, context);
+        self.context.parsed += 1;
+        self.with_query_fragment(&parsed);
+        if request.imports && !parsed.path.starts_with(b"./") {
+            return self.bare_target(request, parsed.path);
+        }
+        self.mark_if(request.imports, Point::ImportsPath);
         if !parsed.path.starts_with(b"./") {
             self.mark(Point::TargetNoDot);
             return Err(End::new(3, &[&parsed.path, request.key, &manifest_of(request.directory)]));
@@ -592,20 +617,24 @@ impl Walk<'_> {
             self.mark(Point::TargetInvalid);
             return Err(End::new(3, &[&target, request.key, &manifest_of(request.directory)]));
         }
-        context.path = self.normalize_with(request.directory, &target)?;
-        Ok(true)
+        self.normalize_with(request.directory, &target).map(Some)
     }
 
-    fn with_query_fragment(&mut self, parsed: &Parsed, context: &mut Place) {
+    fn with_query_fragment(&mut self, parsed: &Parsed) {
         self.mark_if(!parsed.query.is_empty(), Point::ParseQuery);
         self.mark_if(!parsed.fragment.is_empty(), Point::ParseFragment);
         self.mark_if(parsed.escaped, Point::ParseEscape);
         self.mark_if(parsed.escaped && !parsed.path.is_ascii(), Point::ParseWidened);
-        for (old, new) in [(&mut context.query, &parsed.query), (&mut context.fragment, &parsed.fragment)] {
-            self.mark_if(!old.is_empty(), if new.is_empty() { Point::ContextKept } else { Point::ContextReplaced });
-            if !new.is_empty() {
-                old.clone_from(new);
-            }
+        for (old, new) in [(&self.context.query, &parsed.query), (&self.context.fragment, &parsed.fragment)] {
+            let point = if new.is_empty() { Point::ContextKept } else { Point::ContextReplaced };
+            self.marks[point as usize] += u64::from(!old.is_empty());
+        }
+        if !parsed.query.is_empty() {
+            self.context.query.clone_from(&parsed.query);
+        }
+        if !parsed.fragment.is_empty() {
+            self.context.fragment.clone_from(&parsed.fragment);
+            self.context.fragment_of = self.context.parsed;
         }
     }
 
@@ -624,5 +653,180 @@ impl Walk<'_> {
         }
         self.mark(Point::TargetDirectory);
         Err(End::new(6, &[&manifest_of(request.directory)]))
+    }
+
+    // ------------------------------------------------------------ imports
+
+    fn require_hash(&mut self, start: &[u8], specifier: &[u8]) -> Look<Never> {
+        self.load_package_imports(start, specifier)?;
+        Err(End::new(1, &[specifier]))
+    }
+
+    fn load_package_imports(&mut self, start: &[u8], specifier: &[u8]) -> Look<()> {
+        let Some(scope) = self.find_package_json(start)? else {
+            self.mark(Point::ImportsNoScope);
+            return Ok(());
+        };
+        let Some(path) = self.package_imports_resolve(specifier, &scope)? else { return Ok(()) };
+        match self.resolve_esm_match(specifier, &path)? {}
+    }
+
+    /// None where the manifest has no imports map.
+    fn package_imports_resolve(&mut self, specifier: &[u8], scope: &Scope) -> Look<Option<Vec<u8>>> {
+        let imports = field(&scope.manifest, &self.settings[IMPORTS_FIELDS][0]);
+        let Some(Json::Object(members)) = imports else {
+            self.mark(if imports.is_some() { Point::ImportsNoMap } else { Point::ImportsNone });
+            self.mark_if(specifier == b"#", Point::ImportsHashNone);
+            return Ok(None);
+        };
+        let manifest = manifest_of(&scope.directory);
+        if specifier == b"#" {
+            self.mark(Point::ImportsHash);
+            return Err(End::new(50, &[specifier, &manifest]));
+        }
+        self.mark_repeats(members, Point::RepeatedKey);
+        let found = self.package_imports_exports_resolve(&scope.directory, specifier, members, true)?;
+        if found.is_none() {
+            self.mark(Point::ImportsNotDefined);
+            return Err(End::new(51, &[specifier, &manifest]));
+        }
+        Ok(found)
+    }
+
+    /// An imports target that does not begin with "./".
+    fn bare_target(&mut self, request: &Request, path: Vec<u8>) -> Look<Option<Vec<u8>>> {
+        if path.starts_with(b"../") || path.starts_with(b"/") {
+            self.mark(Point::ImportsTargetClimbs);
+            return Err(End::new(3, &[&path, request.key, &manifest_of(request.directory)]));
+        }
+        let target = self.normalize_string_target(request, path)?;
+        if target.len() > 2_048 {
+            self.mark(Point::ImportsTargetTooLong);
+            return Err(End::new(42, &[]));
+        }
+        self.package_resolve(request.directory, &target).map(Some)
+    }
+
+    fn package_resolve(&mut self, directory: &[u8], specifier: &[u8]) -> Look<Vec<u8>> {
+        let name = package_name(specifier);
+        let subpath = dot_subpath(&specifier[name.len()..]);
+        self.mark(Point::PackageResolve);
+        self.mark_if(matches!(name, b"." | b".."), Point::PackageDots);
+        self.mark_if(name.starts_with(b"#"), Point::PackageHash);
+        for (i, directory) in directories(directory).into_iter().enumerate() {
+            self.mark_if(i > 0, Point::PackageSecond);
+            self.mark_if(i > 0 && directory == b"/", Point::PackageRoot);
+            let modules = self.normalize_with(directory, b"node_modules")?;
+            if !self.is_dir(&modules)? {
+                continue;
+            }
+            let package = self.normalize_with(&modules, name)?;
+            self.mark_if(name.is_empty(), Point::PackageNameEmpty);
+            if self.is_dir(&package)? {
+                return self.in_package_resolve(&package, &subpath);
+            }
+        }
+        self.mark(Point::PackageNotFound);
+        Err(End::new(1, &[specifier]))
+    }
+
+    fn in_package_resolve(&mut self, package: &[u8], subpath: &[u8]) -> Look<Vec<u8>> {
+        if let Some(manifest) = self.get_package_json(package)? {
+            if let Some(exports) = self.exports_field(&manifest) {
+                self.mark(Point::PackageResolveExports);
+                return self.package_exports_resolve(package, subpath, exports);
+            }
+            self.mark(Point::PackageResolveNoExports);
+        } else {
+            self.mark(Point::PackageResolveNoManifest);
+        }
+        let required = self.require(package, subpath);
+        match &required {
+            Ok(_) => self.mark(Point::RequireFound),
+            Err(end) if end.number == 1 => self.mark(if subpath == b"." { Point::RequireNotFoundDot } else { Point::RequireNotFound }),
+            Err(_) => {}
+        }
+        required
+    }
+
+    /// The path of the file that the relative step finds.
+    fn require(&mut self, directory: &[u8], specifier: &[u8]) -> Look<Vec<u8>> {
+        let (depth, passed) = self.context.depth.overflowing_add(1);
+        self.context.depth = depth;
+        self.mark_if(passed, Point::RequireWraps);
+        if depth > 64 {
+            self.mark(Point::RequireRecursion);
+            return Err(End::new(56, &[]));
+        }
+        let parsed = parse_specifier(specifier).ok_or_else(|| End::new(2, &[specifier]))?;
+        self.mark_if(parsed.escaped, Point::RequireEscapedAgain);
+        self.mark_if(!parsed.fragment.is_empty() || !parsed.query.is_empty(), Point::RequireParsedAgain);
+        self.with_query_fragment(&parsed);
+        let Context { query, fragment, .. } = &self.context;
+        match (query.is_empty(), fragment.is_empty()) {
+            (true, false) => {
+                if let Some(path) = self.require_joined(directory, &parsed.path)? {
+                    return Ok(path);
+                }
+            }
+            (false, false) => self.mark(Point::RequireQuery),
+            _ => {}
+        }
+        self.require_without_parse(directory, &parsed.path)
+    }
+
+    /// `load_parse`: the fragment as a part of the path.
+    fn require_joined(&mut self, directory: &[u8], path: &[u8]) -> Look<Option<Vec<u8>>> {
+        let fragment = std::mem::take(&mut self.context.fragment);
+        let joined = [path, &fragment].concat();
+        let bare = path == b".";
+        self.mark(if bare { Point::JoinedBare } else { Point::JoinedRelative });
+        self.mark_if(self.context.fragment_of < self.context.parsed, Point::JoinedEarlier);
+        match self.require_without_parse(directory, &joined) {
+            Ok(path) => {
+                self.mark(if bare { Point::JoinedBareFound } else { Point::JoinedFound });
+                self.mark_if(!self.context.query.is_empty() || !self.context.fragment.is_empty(), Point::JoinedFoundWith);
+                Ok(Some(path))
+            }
+            Err(end) if end.is_refusal() => {
+                self.mark_if(end.number != 53, Point::JoinedRefused);
+                Err(end)
+            }
+            Err(end) => {
+                self.mark(Point::JoinedDrops);
+                self.mark_if(end.number == 7, Point::JoinedDropsFault);
+                self.mark_if(!matches!(end.number, 1 | 7), Point::JoinedDropsExports);
+                self.mark_if(!self.context.query.is_empty(), Point::JoinedLeavesQuery);
+                self.context.fragment = fragment;
+                Ok(None)
+            }
+        }
+    }
+
+    /// A text that begins with ".": a path, or a bare name such as ".#f".
+    fn require_without_parse(&mut self, directory: &[u8], specifier: &[u8]) -> Look<Vec<u8>> {
+        let first = split_at(specifier, b'/').0;
+        let tried = if matches!(first, b"." | b"..") {
+            self.require_relative(directory, specifier)
+        } else {
+            self.load_package_self_or_node_modules(directory, specifier)
+        };
+        match tried {
+            Err(end) if end.number == 0 => Ok(end.texts[0].clone()),
+            Err(end) => Err(end),
+            Ok(never) => match never {},
+        }
+    }
+
+    fn require_relative(&mut self, directory: &[u8], specifier: &[u8]) -> Look<Never> {
+        let path = self.normalize_with(directory, specifier)?;
+        if specifier != b"." && !specifier.ends_with(b"/") {
+            self.load_as_file(&path)?;
+        }
+        self.mark_if(specifier.ends_with(b"/"), Point::RelativeFolder);
+        if self.is_dir(&path)? {
+            self.load_as_directory(&path)?;
+        }
+        Err(End::new(1, &[specifier]))
     }
 }

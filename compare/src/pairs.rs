@@ -1,10 +1,11 @@
 //! Demand 3 on calls: two listings that agree at every path the first one's lookup consulted, whatever they hold elsewhere and
-//! exports maps of distinct subpath keys reordered, must end alike to the last byte, stopped lookups and other refusals included.
+//! exports maps of distinct subpath keys and imports maps of distinct keys reordered, must end alike to the last byte, stopped lookups and
+//! other refusals included.
 
 use crate::cases::{self, Case};
 use crate::expected;
 use crate::json::{self, Json, Member};
-use crate::lent::{EXPORTS_FIELDS, Settings, Tree, is_path, lay, name_of, parent, rows};
+use crate::lent::{EXPORTS_FIELDS, IMPORTS_FIELDS, Settings, Tree, is_path, lay, name_of, parent, rows};
 use crate::manifests::{Around, SOME_REPEATS, damaged};
 use crate::model::{self, Walked};
 use crate::product;
@@ -92,15 +93,19 @@ impl Other<'_> {
         self.put(other, states, &path, contents);
     }
 
-    /// The manifest with the members of its exports maps in another order, where their keys allow it.
+    /// The manifest with the members of its exports and imports maps in another order, where their keys allow it.
     fn reorder(&mut self, manifest: Vec<u8>) -> Vec<u8> {
         let Ok(Json::Object(members)) = json::read(&manifest) else { return manifest };
         let mut out = manifest.clone();
-        for member in members.iter().filter(|member| self.settings[EXPORTS_FIELDS].contains(&member.name)) {
+        let is_field = |kind: usize, member: &Member| self.settings[kind].contains(&member.name);
+        let maps = |member: &&Member| is_field(EXPORTS_FIELDS, member) || is_field(IMPORTS_FIELDS, member);
+        for member in members.iter().filter(maps).collect::<Vec<_>>() {
             if let Json::Object(map) = &member.value {
                 let subpath = |key: &[u8]| key == b"." || key.starts_with(b"./") || key.starts_with(b"#");
                 let distinct = map.iter().enumerate().all(|(i, entry)| map[..i].iter().all(|before| before.name != entry.name));
-                if map.len() > 1 && distinct && map.iter().all(|entry| subpath(&entry.name)) {
+                // The keys of an imports map are free, unless its field is an exports field too.
+                let free = !self.settings[EXPORTS_FIELDS].contains(&member.name) || map.iter().all(|entry| subpath(&entry.name));
+                if map.len() > 1 && distinct && free {
                     let text = self.map_text(&manifest, member, map);
                     out[member.value_from..member.to].copy_from_slice(&text);
                 }
@@ -183,7 +188,7 @@ pub fn run(count: u64, seed: u64) -> bool {
         number += 1;
     }
     println!(
-        "pairs: {} whose listings differ, {} of them with an exports map reordered, {} faults",
+        "pairs: {} whose listings differ, {} of them with an exports or imports map reordered, {} faults",
         seen.changed, seen.reordered, seen.faults
     );
     println!("pairs by number: {:?}", seen.numbers);

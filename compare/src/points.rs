@@ -103,6 +103,48 @@ points! {
     ManifestNoObject "package_json: the root is no object",
     Fault7 "package_json: a fault",
     Fault40 "package_json: over a limit",
+    // From here to RelativeFolder: names that begin with "#".
+    ImportsNoScope "load_package_imports: no manifest",
+    ImportsNone "package_imports_resolve: no imports field",
+    ImportsNoMap "package_imports_resolve: an imports field that is no map",
+    ImportsHash "package_imports_resolve: # itself, and an imports map",
+    ImportsHashNone "package_imports_resolve: # itself, and no imports map",
+    ImportsNotDefined "package_imports_resolve: not defined",
+    ImportsPath "package_target_resolve: an imports target with ./",
+    ImportsTargetClimbs "package_target_resolve: an imports target that begins with ../ or /",
+    ImportsTargetTooLong "package_target_resolve: 42 after substitution in an imports target without ./",
+    TargetArrayRecursion "package_target_resolve: an array drops Recursion",
+    TargetArrayNotFound "package_target_resolve: an array's last NotFound leaves nothing",
+    PackageResolve "package_resolve",
+    PackageDots "package_resolve: . or .. as a package's name",
+    PackageHash "package_resolve: a package's name that begins with #",
+    PackageNameEmpty "package_resolve: a name that substitution left empty, the empty path",
+    PackageSecond "package_resolve: a directory above, not asked about itself",
+    PackageRoot "package_resolve: / too",
+    PackageNotFound "package_resolve: not found",
+    PackageResolveExports "package_resolve: exports",
+    PackageResolveNoExports "package_resolve: a manifest without exports",
+    PackageResolveNoManifest "package_resolve: no manifest of its own",
+    RequireFound "require: a file found, which is asked for again",
+    RequireNotFound "require: NotFound with ./ and a subpath",
+    RequireNotFoundDot "require: NotFound with .",
+    RequireRecursion "require: the 65th step to the 255th",
+    RequireWraps "require: the 256th step",
+    RequireEscapedAgain "require: byte 0 before # leaves the text a second time",
+    RequireParsedAgain "require: a query or fragment in a text that was parsed before",
+    RequireQuery "load_parse: a query keeps the fragment from being tried",
+    JoinedRelative "load_parse: a subpath with its fragment tried as a path",
+    JoinedBare "load_parse: . with its fragment tried as a bare name",
+    JoinedEarlier "load_parse: a fragment of an earlier target",
+    JoinedFound "load_parse: a path with its fragment found, and the fragment gone",
+    JoinedBareFound "load_parse: a bare name such as .#f found",
+    JoinedFoundWith "load_parse: found with a query or fragment met on the way",
+    JoinedDrops "load_parse: an error dropped",
+    JoinedDropsFault "load_parse: a faulty manifest dropped",
+    JoinedDropsExports "load_parse: an error of exports dropped",
+    JoinedRefused "load_parse: refusal 40 or 42 kept",
+    JoinedLeavesQuery "load_parse: what is dropped leaves its query",
+    RelativeFolder "require_relative: a subpath that ends in /",
     // The last ones, for vectors.rs.
     Repeated "a name comes twice in an object that is looked at",
     RepeatedField "package_json: a field comes twice",
@@ -111,6 +153,11 @@ points! {
     RepeatedDeep "package_target_resolve: a condition comes twice inside a target",
     RepeatedEscape "a name comes twice, with an escape in one spelling only",
     RepeatedThrice "a name comes three times or more",
+}
+
+/// Points that only a name which begins with "#" reaches.
+pub fn of_hash_names(point: usize) -> bool {
+    (Point::ImportsNoScope as usize..=Point::RelativeFolder as usize).contains(&point)
 }
 
 /// How often each point was reached.

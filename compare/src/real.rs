@@ -6,7 +6,7 @@
 
 use crate::cases::{Case, World};
 use crate::json::{self, Json};
-use crate::lent::{Settings, Tree, name_of, parent};
+use crate::lent::{HASH_NAMES, Settings, Tree, name_of, parent};
 use crate::{Report, rust};
 use std::collections::BTreeMap;
 use std::os::unix::ffi::OsStrExt;
@@ -30,14 +30,14 @@ fn whole(folder: &Path, at: &[u8], tree: &mut Tree) -> io::Result<()> {
 
 /// As Node's `require` looks.
 fn settings() -> Settings {
-    [&["node", "require"][..], &[".js", ".json", ".node"], &["main"], &["index"], &["exports"]]
+    [&["node", "require"][..], &[".js", ".json", ".node"], &["main"], &["index"], &["exports"], &["imports"]]
         .map(|texts| texts.iter().map(|text| text.as_bytes().to_vec()).collect())
 }
 
 /// What is asked for of each dependency, as in resolve.mjs.
 const SUFFIXES: [&[u8]; 3] = [b"", b"/package.json", b"/missing"];
 
-/// The names that a manifest depends on, and paths in them.
+/// The names that a manifest depends on, and paths in them; and, where they are taken, the names of its imports.
 fn dependencies(manifest: &[u8]) -> Vec<Vec<u8>> {
     let Ok(Json::Object(members)) = json::read(manifest) else { return Vec::new() };
     let kinds = [&b"dependencies"[..], b"optionalDependencies", b"peerDependencies"];
@@ -47,6 +47,11 @@ fn dependencies(manifest: &[u8]) -> Vec<Vec<u8>> {
             for suffix in SUFFIXES {
                 names.extend(dependencies.iter().map(|dependency| [&dependency.name[..], suffix].concat()));
             }
+        }
+    }
+    for member in members.iter().filter(|member| HASH_NAMES && member.name == b"imports") {
+        if let Json::Object(imports) = &member.value {
+            names.extend(imports.iter().map(|import| import.name.clone()));
         }
     }
     names
@@ -76,6 +81,8 @@ fn as_node(number: u32, texts: &[Vec<u8>]) -> String {
         2 | 3 => "ERR_INVALID_PACKAGE_TARGET".into(),
         4 => "ERR_PACKAGE_PATH_NOT_EXPORTED".into(),
         5 | 7 => "ERR_INVALID_PACKAGE_CONFIG".into(),
+        50 => "ERR_INVALID_MODULE_SPECIFIER".into(),
+        51 => "ERR_PACKAGE_IMPORT_NOT_DEFINED".into(),
         _ => format!("answer {number}"),
     }
 }

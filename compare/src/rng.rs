@@ -10,6 +10,11 @@ impl Rng {
         rng
     }
 
+    /// Further numbers that depend on the place reached and on `name`, while this sequence stays where it is.
+    pub fn beside(&self, name: u64) -> Self {
+        Self::new(self.0, name)
+    }
+
     pub fn next(&mut self) -> u64 {
         self.0 = self.0.wrapping_add(0x9E37_79B9_7F4A_7C15);
         let mut z = self.0;

@@ -1,7 +1,8 @@
-//! The Rust itself, asked in this process: both builds of ../shared/oracle, `logged`, whose cells remember nothing, so that every
-//! question reaches the tree and is written down, and `plain`, which has no patched line. They must agree on the answer.
+//! The Rust itself, asked in this process: both builds of the oracle, `logged`, whose cells remember nothing, so that every question
+//! reaches the tree and is written down, and `plain`, which has no patched line. They must agree on the answer. With cfg `later` the
+//! oracle is ../shared/oracle-later, which asks a name that begins with "#" of `require_hash`, and tells the tree each question by `noted`.
 
-use crate::lent::{Settings, Tree};
+use crate::lent::{Settings, Tree, is_hash};
 use crate::model::{Consult, End};
 use rustc_hash::FxHashMap;
 use std::panic::{AssertUnwindSafe, catch_unwind};
@@ -66,11 +67,17 @@ macro_rules! build {
                 }
                 fn symlink_metadata(&self, path: &Path) -> io::Result<FileMetadata> {
                     let state = self.state(path);
+                    #[cfg(not(later))]
                     self.note(FileSystemOs::muted(), state, path);
                     if state == 0 {
                         return Err(io::ErrorKind::NotFound.into());
                     }
                     Ok(FileMetadata::new(state == 2, state == 1, false))
+                }
+                #[cfg(later)]
+                fn noted(&self, path: &Path, metadata: Option<FileMetadata>) {
+                    let state = metadata.map_or(0, |metadata| if metadata.is_dir() { 1 } else { 2 });
+                    self.note(FileSystemOs::muted(), state, path);
                 }
                 fn metadata(&self, _: &Path) -> io::Result<FileMetadata> {
                     unreachable!("there are no links")
@@ -97,7 +104,7 @@ macro_rules! build {
                     condition_names: texts(0),
                     enforce_extension: EnforceExtension::Disabled,
                     exports_fields: texts(4).into_iter().map(|name| vec![name]).collect(),
-                    imports_fields: vec![],
+                    imports_fields: texts(5).into_iter().map(|name| vec![name]).collect(),
                     extension_alias: vec![],
                     extensions: texts(1),
                     fallback: vec![],
@@ -140,6 +147,9 @@ macro_rules! build {
                     Err(ResolveError::InvalidPackageConfig(path)) => (5, vec![bytes(path)]),
                     Err(ResolveError::InvalidPackageConfigDirectory(path)) => (6, vec![bytes(path)]),
                     Err(ResolveError::Json(fault)) => (7, vec![bytes(fault.path)]),
+                    Err(ResolveError::InvalidModuleSpecifier(specifier, path)) => (50, vec![specifier.into_bytes(), bytes(path)]),
+                    Err(ResolveError::PackageImportNotDefined(specifier, path)) => (51, vec![specifier.into_bytes(), bytes(path)]),
+                    Err(ResolveError::Recursion) => (56, vec![]),
                     Err(other) => return Err(format!("an error that no answer stands for: {other:?}")),
                 };
                 Ok(End { number, texts })
@@ -167,6 +177,9 @@ fn both(tree: &Tree, settings: &Settings, start: &Path, specifier: &str) -> Resu
 /// The Rust's answer and list.
 pub fn ask(tree: &Tree, settings: &Settings, start: &[u8], specifier: &[u8]) -> Result<(End, Vec<Consult>), String> {
     let start = Path::new(OsStr::from_bytes(start));
+    if is_hash(specifier) && !cfg!(later) {
+        return Err("this oracle can't be asked for names that begin with \"#\"".into());
+    }
     let specifier = std::str::from_utf8(specifier).map_err(|fault| fault.to_string())?;
     catch_unwind(AssertUnwindSafe(|| both(tree, settings, start, specifier))).unwrap_or_else(|_| Err("the Rust panicked".into()))
 }

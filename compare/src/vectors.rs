@@ -4,7 +4,9 @@
 use crate::broken;
 use crate::cases::{self, Case, GATEWAY, Room};
 use crate::expected::{self, Expected};
-use crate::lent::{read_listing, read_settings, word};
+use crate::hash;
+use crate::lent::{HASH_NAMES, read_listing, read_settings, word};
+use crate::model::is_answer;
 use crate::points::{self, Point};
 use crate::product::{self, Left, Rooms};
 use crate::rng::Rng;
@@ -15,6 +17,10 @@ use std::collections::{BTreeMap, HashSet};
 const SAME: u32 = 0xFFFF_FFFF;
 /// The numbers that begin a case take this many bytes.
 const HEADER: usize = 60;
+
+/// What the program that replays them lends and reads at most (crates/vectors_main).
+const LENT: Rooms = Rooms { result: 4_096, numbers: 512, list: 4_096, work: 40_960 };
+const FILE: usize = 1_500_000;
 
 /// How many cases are kept at least of each answer, each refusal, and each routine or branch.
 const OF_ANSWER: u64 = 80;
@@ -63,7 +69,7 @@ fn packed_list(expected: &Expected) -> Vec<u8> {
 impl Chosen {
     /// Whether the case adds to a count that is still low.
     fn wants(&self, want: &Left, expected: &Expected) -> bool {
-        let least = if want.number < 8 { OF_ANSWER } else { OF_REFUSAL };
+        let least = if is_answer(want.number) { OF_ANSWER } else { OF_REFUSAL };
         let number = self.numbers.get(&want.number).copied().unwrap_or(0) < least;
         let least = |point: usize| if point >= Point::Repeated as usize { OF_REPEAT } else { OF_POINT };
         let mut reached = expected.marks.iter().flatten().zip(&self.marks).enumerate();
@@ -87,7 +93,7 @@ impl Chosen {
         body.extend_from_slice(&case.start);
         body.extend_from_slice(&case.specifier);
         let mut list = Vec::new();
-        if want.number < 8 {
+        if is_answer(want.number) {
             body.extend(expected.end.texts.iter().flatten());
             list = packed_list(expected);
         }
@@ -117,7 +123,9 @@ impl Chosen {
             Fit::Wanted => (small || few) && self.wants(&want, &expected),
             Fit::Small => small && (want.number != 1 || expected.list.len() < 10),
         };
-        if !kept || !self.known.insert(crate::hash(case)) {
+        let Rooms { result, numbers, list, work } = LENT;
+        let fits = rooms.result <= result && rooms.numbers <= numbers && rooms.list <= list && rooms.work <= work;
+        if !kept || !fits || !self.known.insert(crate::fingerprint(case)) {
             return Ok(false);
         }
         self.keep(case, &expected, rooms, &want);
@@ -152,7 +160,8 @@ fn limits(seed: u64) -> impl Iterator<Item = Case> {
 
 fn choose(seed: u64) -> Result<Chosen, String> {
     let mut chosen = Chosen { marks: points::no_marks(), ..Chosen::default() };
-    let kept = broken::fixed().into_iter().chain(limits(seed));
+    let hash = if HASH_NAMES { hash::fixed() } else { Vec::new() };
+    let kept = broken::fixed().into_iter().chain(limits(seed)).chain(hash);
     for case in kept {
         chosen.offer(&case, Fit::Always)?;
     }
@@ -185,8 +194,13 @@ pub fn write(file: &str, seed: u64) -> bool {
     };
     let bytes = [&chosen.count.to_le_bytes()[..], &chosen.out].concat();
     println!("{} cases in {} bytes; by number: {:?}", chosen.count, bytes.len(), chosen.numbers);
-    let fewest = points::POINTS.iter().zip(&chosen.marks).min_by_key(|point| point.1);
-    fewest.iter().for_each(|(words, count)| println!("the fewest cases reach \"{words}\": {count}"));
+    let due = |point: &usize| HASH_NAMES || !points::of_hash_names(*point);
+    let fewest = (0..chosen.marks.len()).filter(due).min_by_key(|&point| chosen.marks[point]);
+    fewest.iter().for_each(|&point| println!("the fewest cases reach \"{}\": {}", points::POINTS[point], chosen.marks[point]));
+    if bytes.len() > FILE {
+        println!("the program that replays them reads {FILE} bytes at most");
+        return false;
+    }
     std::fs::write(file, bytes).is_ok()
 }
 
@@ -242,7 +256,7 @@ impl<'a> Reader<'a> {
             left.numbers[2 + count + i] = u32::from(head[0]);
             (before, at, packed) = (at, at + short(1) + more.len(), rest);
         }
-        if left.number < 8 {
+        if is_answer(left.number) {
             left.numbers[..2].copy_from_slice(&[count as u32, at as u32]);
         }
         packed.is_empty().then_some(())

@@ -150,7 +150,7 @@ pub enum Refusal {
     Specifier,
     /// 23: the start is no directory of the listing.
     Start,
-    /// 24: the settings are malformed or over a limit.
+    /// 24: the settings are malformed or over a limit; [`Settings::from_bytes`](crate::Settings::from_bytes) says what is wrong.
     Settings,
     /// 25: the work memory is too short. [`lookup`](crate::lookup) never gives it.
     WorkTooShort,

@@ -37,4 +37,4 @@ pub use listing::Listing;
 pub use lookup::{Buffers, Consult, Consults, Lookup, State, lookup, lookup_with};
 pub use options::Options;
 pub use repeats::{Repeat, repeats};
-pub use settings::Settings;
+pub use settings::{Settings, SettingsFault};

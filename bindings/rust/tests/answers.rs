@@ -1,6 +1,6 @@
 //! A question for each answer and each refusal that a caller of this crate can meet.
 
-use hannuvozh::{Answer, Buffers, Listing, Lookup, Options, Refusal, Refused, Settings, State, lookup, lookup_with};
+use hannuvozh::{Answer, Buffers, Listing, Lookup, Options, Refusal, Refused, Settings, SettingsFault, State, lookup, lookup_with};
 
 /// Package m in `/p/node_modules` with this manifest and these files.
 fn ask(manifest: &str, files: &[&str], specifier: &str) -> Result<Lookup, Refused> {
@@ -130,6 +130,55 @@ fn settings_over_their_limits_are_refused_however_far() {
     assert_eq!(refused(lookup(&listing, &many.to_bytes(), "/", "a")), (Refusal::Settings, 0));
     let long = Settings::new().main_file(&"a".repeat(300));
     assert_eq!(refused(lookup(&listing, &long.to_bytes(), "/", "a")), (Refusal::Settings, 0));
+}
+
+/// The fault that `from_bytes` names, where the lookup refuses the settings, and nowhere else.
+fn settings_fault(settings: &[u8]) -> Option<SettingsFault> {
+    let outcome = lookup(&Listing::new().to_bytes(), settings, "/", "a");
+    let fault = Settings::from_bytes(settings).err();
+    let is_refused = outcome.is_err_and(|refused| refused.refusal() == Refusal::Settings);
+    assert_eq!(fault.is_some(), is_refused, "{settings:?}");
+    fault
+}
+
+#[test]
+fn one_imports_field() {
+    let example = Settings::example().to_bytes();
+    assert_eq!(&example[..12], [1, 1, 1, 1, 1, 1, 6, 3, 4, 5, 7, 7]);
+    assert_eq!(settings_fault(&example), None);
+    let five = [&example[..5], &example[6..11], b"import.jsmainindexexports"].concat();
+    assert_eq!(settings_fault(&five), Some(SettingsFault::FiveCounts));
+    for (length, fault) in
+        [(0, Some(SettingsFault::Text("an imports field"))), (1, None), (32, None), (33, Some(SettingsFault::Text("an imports field")))]
+    {
+        assert_eq!(settings_fault(&Settings::example().imports_field(&"i".repeat(length)).to_bytes()), fault);
+    }
+    let none = [&example[..5], &[0], &example[6..11], b"import.jsmainindexexports"].concat();
+    assert_eq!(settings_fault(&none), Some(SettingsFault::ImportsCount(0)));
+    let two = [&example[..5], &[2], &example[6..12], b"\x07import.jsmainindexexportsimportsimports"].concat();
+    assert_eq!(settings_fault(&two), Some(SettingsFault::ImportsCount(2)));
+    assert_eq!(settings_fault(b""), Some(SettingsFault::Length));
+    assert_eq!(
+        settings_fault(&Settings::new().exports_field("a").exports_field("b").exports_field("c").to_bytes()),
+        Some(SettingsFault::TooMany("an exports field"))
+    );
+}
+
+/// Whatever one byte of the settings becomes, and wherever they end, `from_bytes` refuses what the lookup refuses, and reads the rest.
+#[test]
+fn from_bytes_refuses_as_the_lookup_does() {
+    let whole = Settings::require().extension("").imports_field("é").to_bytes();
+    for at in 0..whole.len() {
+        settings_fault(&whole[..at]);
+        for byte in 0..=255 {
+            let mut changed = whole.clone();
+            changed[at] = byte;
+            settings_fault(&changed);
+            if let Ok(read) = Settings::from_bytes(&changed) {
+                assert_eq!(read.to_bytes(), changed);
+            }
+        }
+    }
 }
 
 /// A list that is longer than the first buffers.

@@ -30,6 +30,9 @@ fn pack_settings_ask() {
     assert!(run(&folder, &["pack", "job"]).status.success());
     let options = ["settings", "--condition", "import", "--extension", ".js", "--main-field", "main", "--main-file", "index"];
     assert!(run(&folder, &[&options[..], &["--exports-field", "exports"]].concat()).status.success());
+    let unsaid = fs::read(folder.join("settings")).unwrap();
+    assert!(run(&folder, &[&options[..], &["--exports-field", "exports", "--imports-field", "imports"]].concat()).status.success());
+    assert_eq!(fs::read(folder.join("settings")).unwrap(), unsaid);
     let asked = run(&folder, &["ask", "/p", "mat/steel"]);
     assert_eq!(asked.status.code(), Some(0));
     let words = text(&asked);
@@ -37,6 +40,25 @@ fn pack_settings_ask() {
     assert!(words.ends_with(PRINTED), "{words}");
     assert_eq!(fs::read(folder.join("question")).unwrap(), b"/p\nmat/steel");
     assert_eq!(text(&run(&folder, &["--plain", "ask"])), PRINTED);
+    fs::remove_dir_all(folder).unwrap();
+}
+
+/// Settings that were written before there was an imports field are refused, and the command says why.
+#[test]
+fn settings_of_five_counts() {
+    let folder = folder("five");
+    assert!(run(&folder, &["pack", "job"]).status.success());
+    fs::write(folder.join("settings"), b"\x01\x01\x01\x01\x01\x06\x03\x04\x05\x07import.jsmainindexexports").unwrap();
+    let refused = run(&folder, &["ask", "/p", "mat/steel"]);
+    assert_eq!(refused.status.code(), Some(2));
+    let words = "refused: the settings are malformed or over a limit; the caller can mend it\n\
+                 the settings have five counts, as before there was an imports field; they now have six, the last of which is 1: write them again\n\
+                 0 paths were consulted\n24\n";
+    assert!(text(&refused).ends_with(words), "{}", text(&refused));
+    assert_eq!(text(&run(&folder, &["--plain", "ask"])), "24\n");
+    let long = run(&folder, &["resolve", "job", "/p", "mat/steel", "--imports-field", &"i".repeat(33)]);
+    assert_eq!(long.status.code(), Some(2));
+    assert!(text(&long).contains("a text of the settings for an imports field is empty, over 32 bytes"), "{}", text(&long));
     fs::remove_dir_all(folder).unwrap();
 }
 

@@ -1,3 +1,4 @@
 pub mod Tape
+pub mod Caught
 pub mod Loop
 pub mod Meaning

@@ -1,2 +1,3 @@
 pub mod Objects
+pub mod Selections
 pub mod Resolutions

@@ -1,46 +1,32 @@
 -- Keys, the main export, and the exports field as a whole.
-use mathlib.Core.Path.{_≡_, refl, sym, _∙_, ap, subst}
+use mathlib.Core.Path.{_≡_, refl, sym, _∙_, ap}
 use mathlib.Core.Bool.{Bool, true, false, not, _&&_}
 use mathlib.Core.List.{List}
-use mathlib.Core.Option.{Option, none, some}
-use Prim.Native.Nat.{ℕ, suc}
+use mathlib.Core.Option.{none, some}
+use Prim.Native.Nat.{ℕ}
 use native.Mathlib.Omega.{arith}
-use lib.ListN.{length, drop, take}
-use Rattle.definition.specs.Text.{text, if_then_else_, star, equal, startsWith, endsWith, contains}
+use lib.ListN.{take}
+use Rattle.definition.specs.Text.{text, if_then_else_, equal}
 use Rattle.definition.specs.Path.{manifestOf}
 use Rattle.definition.specs.Json.{Json, scalar, str, arr, obj, Members}
 use Rattle.definition.specs.Settings.{textsOf}
 use Rattle.definition.specs.Exports as exports
-use Rattle.definition.specs.Exports.{Request, failed, InvalidPackageConfig, orGoOn, pathNotExported, Entry, entries, get, anyKey, isDotKey, isSubpathKey, patternMatch, best, literal, asSelected, literalOr, select, selectedResolve, PACKAGE-TARGET-RESOLVE, PACKAGE-IMPORTS-EXPORTS-RESOLVE, isMixed, dotOr, mainExport, mainResolve, keyResolve, PACKAGE-EXPORTS-RESOLVE}
-use Rattle.definition.specs.JsonAt.{getAt}
-use Rattle.package_target.specs.Places.{Stands, kindOf}
-use Rattle.package_json.specs.declared.Cursor.{Cursor}
-use Rattle.package_json.specs.declared.Cursor.the-variants.{At as FoundAt, Nothing as NotFound}
-use Rattle.package_json.specs.Cursors.{placed}
+use Rattle.definition.specs.Exports.{failed, InvalidPackageConfig, orGoOn, pathNotExported, Entry, entries, get, anyKey, isDotKey, isSubpathKey, select, selectedResolve, PACKAGE-TARGET-RESOLVE, PACKAGE-IMPORTS-EXPORTS-RESOLVE, isMixed, dotOr, mainExport, mainResolve, keyResolve, PACKAGE-EXPORTS-RESOLVE}
+use Rattle.package_target.specs.Places.{kindOf}
 use Rattle.package_target.specs.declared.Kind.the-variants.{Scalar, String, Array}
 use Rattle.targets.specs.declared.Context.{Context}
-use Rattle.targets.specs.declared.Form.{Form}
 use Rattle.targets.specs.declared.Form.the-variants.{Plain}
-use Rattle.targets.specs.declared.Match.the-variants.{Part}
 use Rattle.targets.specs.declared.Outcome.{Outcome}
 use Rattle.targets.specs.declared.Answer.{Answer}
-use Rattle.exports.specs.declared.Best.{Best}
-use Rattle.exports.specs.declared.Key.the-variants.{Subpath, At}
+use Rattle.exports.specs.declared.Member.{Member}
+use Rattle.exports.specs.declared.Key.the-variants.{Subpath}
 use Rattle.exports.specs.declared.Resolved.{Resolved}
 use Rattle.targets.specs.Keys.{matchOf}
-use Rattle.targets.specs.Contexts.{readText, contextOf}
-use Rattle.targets.specs.Answers.{outcomeIn, answerOf, Formed}
+use Rattle.targets.specs.Contexts.{contextOf}
+use Rattle.targets.specs.Answers.{outcomeIn, resolved, answerOf}
 use Rattle.package_target.specs.Answers.{Requested, isNothing}
-use Rattle.exports.specs.Chosen.{Finds, Chosen, BestOf, formOf, keyText, resolvedOf, dotRequest, keysOrNot, IsWhole}
-use Rattle.package_json.specs.Values as values
-use Rattle.package_json.proofs.Values.{get-here}
-use Rattle.package_target.proofs.Places.{stands-at}
-use Rattle.exports.proofs.Objects.{best-value}
+use Rattle.exports.specs.Chosen.{keyText, requestFor, Applies, resolvedOf, dotRequest, keysOrNot, IsWhole}
 use Rattle.package_target.proofs.Loops.{nothingYet, go-stop, go-on}
-use Rattle.definition.specs.Manifest.{field}
-
-clash : {P : Type 0} → true ≡ false → P
-clash e = absurd (let z : _≡_ {A = ℕ} 0 1 = cc in omega arith)
 
 -- an end that speaks of the subpath
 pub subpath-is : (m url subpath path : List ℕ) (r : Resolved) (c : Context) (o : Outcome) → (r .answer .context ≡ c) × (r .answer .outcome ≡ o) × (r .key ≡ Subpath)
@@ -50,114 +36,29 @@ subpath-is m url subpath path r c o e =
     ∙ ap (λ x. record { context = contextOf m c; outcome = outcomeIn url (keyText m subpath (r .key)) (matchOf subpath (r .matched)) x (take (r .answer .len) path) }) (e .1)
     ∙ ap (λ x. record { context = contextOf m c; outcome = outcomeIn url (keyText m subpath x) (matchOf subpath (r .matched)) o (take (r .answer .len) path) }) (e .2)
 
--- a member's value that was looked for
-finds-from : (m : List ℕ) (d : ℕ) (o : Option Json) (c : Cursor) → values.Finds d o (placed m c) → Finds m d o c
-finds-from m d (some j) (FoundAt i) (values.finds h) = stands-at h
-finds-from m d none NotFound values.finds-none = tt
-
-pub get-finds : (m : List ℕ) (i : ℕ) (c : Cursor) (k : List ℕ) → placed m c ≡ getAt k (drop i m) → (d : ℕ) (ms : Members) → Stands m (suc d) i (obj ms) → Finds m d (get k (entries ms)) c
-unfolding field
-get-finds m i c k e d ms h =
-    let there : values.Stands (suc d) (drop i m) (obj ms) = record { written = h .written; there = h .there .here; means = h .means } in
-    finds-from m d (get k (entries ms)) c (rw e (get-here k there))
-
-pub finds-some : (m : List ℕ) (d : ℕ) (o : Option Json) (r : Cursor) (i : ℕ) → Finds m d o r → r ≡ FoundAt i → (j : Json) × ((o ≡ some j) × Stands m d i j)
-finds-some m d (some j) r i h e = (j, (refl, rw e at h))
-finds-some m d none r i h e = absurd (rw e at h)
-
-pub finds-none : (m : List ℕ) (d : ℕ) (o : Option Json) (r : Cursor) → Finds m d o r → r ≡ NotFound → o ≡ none
-finds-none m d (some j) r h e = absurd (rw e at h)
-finds-none m d none r h e = refl
-
--- the value of the best entry's key
-pub target-found : (m mk : List ℕ) (b : Best) (ms : Members) (i : ℕ) (e : Entry) (r : Cursor) → Stands m 15 i (obj ms) → best mk none (entries ms) ≡ some e
-    → Finds m 14 (get (e .key) (entries ms)) r → Finds m 14 (some (e .target)) r
-target-found m mk b ms i e r h p f = subst (λ o. Finds m 14 o r) (best-value m mk 15 i ms e h p) f
-
-pub finds-at : (m : List ℕ) (d : ℕ) (j : Json) (r : Cursor) {i : ℕ} → Finds m d (some j) r → r ≡ FoundAt i → Stands m d i j
-finds-at m d j r f e = rw e at f
-
-pub finds-not : (m : List ℕ) (d : ℕ) (j : Json) (r : Cursor) → Finds m d (some j) r → r ≡ NotFound → ⊥
-finds-not m d j r f e = rw e at f
-
-module _ (m mk : List ℕ) (es : List Entry) where
-  pub literal-star : contains star mk ≡ true → Finds m 14 (literal mk es) NotFound
-  unfolding literal
-  literal-star h = rw h tt
-
-  pub literal-get : contains star mk ≡ false → (r : Cursor) → Finds m 14 (get mk es) r → Finds m 14 (literal mk es) r
-  unfolding literal
-  literal-get h r f = rw h f
-
 -- `PACKAGE_IMPORTS_EXPORTS_RESOLVE`
 module _ (url : List ℕ) (conds : List (List ℕ)) (mk : List ℕ) (es : List Entry) (c : exports.Context) where
-  pub imports-slash : endsWith (text "/") mk ≡ true → nothingYet c ≡ PACKAGE-IMPORTS-EXPORTS-RESOLVE url conds mk es c
-  unfolding PACKAGE-IMPORTS-EXPORTS-RESOLVE select selectedResolve
-  imports-slash h = rw h
+  pub imports-none : select mk es ≡ none → nothingYet c ≡ PACKAGE-IMPORTS-EXPORTS-RESOLVE url conds mk es c
+  unfolding PACKAGE-IMPORTS-EXPORTS-RESOLVE selectedResolve
+  imports-none e = rw e
 
-  module _ (h : endsWith (text "/") mk ≡ false) where
-    pub imports-literal : (j : Json) → literal mk es ≡ some j → PACKAGE-TARGET-RESOLVE (record { packageURL = url; key = mk; matched = none; conditions = conds }) j c ≡ PACKAGE-IMPORTS-EXPORTS-RESOLVE url conds mk es c
-    unfolding PACKAGE-IMPORTS-EXPORTS-RESOLVE select literalOr selectedResolve
-    imports-literal j e = rw (h, e)
+  pub imports-some : (s : exports.Selected) → select mk es ≡ some s
+      → PACKAGE-TARGET-RESOLVE (requestFor url conds s) (s .target) c ≡ PACKAGE-IMPORTS-EXPORTS-RESOLVE url conds mk es c
+  unfolding PACKAGE-IMPORTS-EXPORTS-RESOLVE selectedResolve
+  imports-some s e = rw e
 
-    pub imports-pattern : literal mk es ≡ none → selectedResolve url conds (asSelected mk (best mk none es)) c ≡ PACKAGE-IMPORTS-EXPORTS-RESOLVE url conds mk es c
-    unfolding PACKAGE-IMPORTS-EXPORTS-RESOLVE select literalOr
-    imports-pattern e = rw (h, e)
-
--- a key without a star that matches is a folder's
-folder-ends : (mk k p : List ℕ) → patternMatch mk k ≡ some p → contains star k ≡ false → endsWith (text "/") k ≡ true
-unfolding patternMatch
-folder-ends mk k p h n = go (isSubpathKey k) (endsWith (text "/") k) (rw n at h)
-  where
-    go : (a e : Bool) → (if not a then none else if e && startsWith k mk then some (drop (length k) mk) else none) ≡ some p → e ≡ true
-    go a true g = refl
-    go true false g = cc
-    go false false g = cc
-
--- the best entry
-abbrev pub patternRequest : (url mk : List ℕ) → Entry → List (List ℕ) → Request
-patternRequest url mk e conds = record { packageURL = url; key = e .key; matched = patternMatch mk (e .key); conditions = conds }
-
-pub requested-by : (q : Request) (settings url : List ℕ) (form f : Form) (pattern p : List ℕ) → form ≡ f → pattern ≡ p → Requested q settings url f p → Requested q settings url form pattern
-requested-by q settings url form f pattern p e g r = rw (e, g) r
-
-module _ (m mk url : List ℕ) (b : Best) (e : Entry) (h : Chosen m mk b e) where
-  pub chosen-asked : (settings : List ℕ) → Requested (patternRequest url mk e (textsOf settings 0)) settings url (formOf (b .rank .starred)) (take (b .len) (drop (b .start) mk))
-  chosen-asked settings = record { asked = record { directory = refl; formed = go (b .rank .starred) (sym (ap (λ r. r .starred) (h .ranked))) }; conditions = refl }
-    where
-      go : (t : Bool) → contains star (e .key) ≡ t → Formed (patternRequest url mk e (textsOf settings 0)) (formOf t) (take (b .len) (drop (b .start) mk))
-      go true s = (h .matched, s)
-      go false s = (h .matched, s, folder-ends mk (e .key) (take (b .len) (drop (b .start) mk)) (h .matched) s)
-
-  pub chosen-key : (conds : List (List ℕ)) (path : List ℕ) (a : Answer) → resolvedOf m url mk path (record { answer = a; key = At (b .key); matched = Part (b .start) (b .len) }) ≡ answerOf m (patternRequest url mk e conds) path a
-  chosen-key conds path a =
-      ap (λ x. record { context = contextOf m (a .context); outcome = outcomeIn url x (some (take (b .len) (drop (b .start) mk))) (a .outcome) (take (a .len) path) }) (ap readText (h .named))
-      ∙ ap (λ x. record { context = contextOf m (a .context); outcome = outcomeIn url (e .key) x (a .outcome) (take (a .len) path) }) (sym (h .matched))
-
-module _ (m mk : List ℕ) (b : Best) where
-  pub best-none : (o : Option Entry) → BestOf m mk b o → b .found ≡ false → o ≡ none
-  best-none none h e = refl
-  best-none (some x) h e = clash (sym (h .found) ∙ e)
-
-  pub best-some : (o : Option Entry) → BestOf m mk b o → b .found ≡ true → (e : Entry) × ((o ≡ some e) × Chosen m mk b e)
-  best-some none h e = clash (sym e ∙ h .0)
-  best-some (some x) h e = (x, (refl, h))
-
-module _ (url : List ℕ) (conds : List (List ℕ)) (mk : List ℕ) (o : Option Entry) (c : exports.Context) where
-  pub pattern-none : o ≡ none → nothingYet c ≡ selectedResolve url conds (asSelected mk o) c
-  unfolding asSelected selectedResolve
-  pattern-none e = rw e
-
-  pub pattern-some : (x : Entry) → o ≡ some x → PACKAGE-TARGET-RESOLVE (patternRequest url mk x conds) (x .target) c ≡ selectedResolve url conds (asSelected mk o) c
-  unfolding asSelected selectedResolve
-  pattern-some x e = rw e
+-- the answer for its target names the member's key, and what matched it
+pub applied : {m mk : List ℕ} {k : Member} {s : exports.Selected} → Applies m mk k s
+    → (url : List ℕ) (conds : List (List ℕ)) (path : List ℕ) (a : Answer)
+    → resolvedOf m url mk path (record { answer = a; key = k .key; matched = k .matched })
+    ≡ answerOf m (requestFor url conds s) path a
+applied {m} {mk} {k} {s} h url conds path a =
+    ap (λ x. resolved m (a .context) (outcomeIn url x (matchOf mk (k .matched)) (a .outcome) (take (a .len) path))) (h .named)
+    ∙ ap (λ x. resolved m (a .context) (outcomeIn url (s .key) x (a .outcome) (take (a .len) path))) (h .matched)
 
 -- the main export
 pub dot-asked : (url settings pattern : List ℕ) → Requested (dotRequest url (textsOf settings 0)) settings url Plain pattern
 dot-asked url settings pattern = record { asked = record { directory = refl; formed = refl }; conditions = refl }
-
-pub key-asked : (url mk settings pattern : List ℕ) → Requested (record { packageURL = url; key = mk; matched = none; conditions = textsOf settings 0 }) settings url Plain pattern
-key-asked url mk settings pattern = record { asked = record { directory = refl; formed = refl }; conditions = refl }
 
 module _ (url : List ℕ) (conds : List (List ℕ)) (ms : Members) (c : exports.Context) where
   pub main-dot : (j : Json) → get (text ".") (entries ms) ≡ some j → PACKAGE-TARGET-RESOLVE (dotRequest url conds) j c ≡ mainResolve url conds (mainExport (obj ms)) c

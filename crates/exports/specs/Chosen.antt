@@ -12,16 +12,21 @@ use Rattle.definition.specs.Exports.{Entry, anyKey, isDotKey, isSubpathKey, pat
 use Rattle.package_json.specs.declared.Cursor.{Cursor}
 use Rattle.package_json.specs.declared.Cursor.the-variants.{At as FoundAt, Nothing as NotFound}
 use Rattle.package_target.specs.Places.{Stands}
+use Rattle.targets.specs.declared.Match.{Match}
+use Rattle.targets.specs.declared.Match.the-variants.{Part, Nothing as Unmatched}
 use Rattle.targets.specs.declared.Form.{Form}
 use Rattle.targets.specs.declared.Form.the-variants.{Starred, Folder}
 use Rattle.exports.specs.declared.KeyMarks.{KeyMarks}
 use Rattle.exports.specs.declared.Best.{Best}
 use Rattle.exports.specs.declared.Key.{Key}
 use Rattle.exports.specs.declared.Key.the-variants.{Dot, Subpath, At}
+use Rattle.exports.specs.declared.Member.{Member}
+use Rattle.exports.specs.declared.Selected.{Selected}
+use Rattle.exports.specs.declared.Selected.the-variants.{Nothing as Unselected, Of}
 use Rattle.exports.specs.declared.Resolved.{Resolved}
 use Rattle.targets.specs.Keys.{rankOf, matchOf}
 use Rattle.targets.specs.Contexts.{stringAt, contextOf}
-use Rattle.targets.specs.Answers.{outcomeIn}
+use Rattle.targets.specs.Answers.{outcomeIn, Formed}
 
 -- a member's value was looked for
 abbrev pub Finds : List ℕ → ℕ → Option Json → Cursor → Type 0
@@ -62,6 +67,32 @@ keyText m subpath Dot = text "."
 keyText m subpath Subpath = subpath
 keyText m subpath (At i) = stringAt m i
 
+-- THE MEMBER OF A MAP THAT APPLIES to a match key mk, of a map in a manifest m
+
+-- the part of the match key that matched, or, for a literal key, all of it
+abbrev pub partOf : (mk : List ℕ) → Match → List ℕ
+partOf mk (Part start len) = take len (drop start mk)
+partOf mk Unmatched = mk
+
+-- the request for its target
+abbrev pub requestFor : (url : List ℕ) → List (List ℕ) → exports.Selected → Request
+requestFor url conditions s =
+    record { packageURL = url; key = s .key; matched = s .matched; conditions = conditions }
+
+pub record Applies (m mk : List ℕ) (r : Member) (s : exports.Selected) : Type 0 where
+  pub named : keyText m mk (r .key) ≡ s .key
+  pub matched : matchOf mk (r .matched) ≡ s .matched
+  pub there : Stands m 14 (r .value) (s .target)
+  pub formed : (url : List ℕ) (cs : List (List ℕ)) → Formed (requestFor url cs s) (r .form) (partOf mk (r .matched))
+
+-- what was selected is that member, or there is none
+abbrev pub Selects : (m mk : List ℕ) → Selected → Option exports.Selected → Type 0
+Selects m mk Unselected none = Unit {0}
+Selects m mk Unselected (some s) = ⊥
+Selects m mk (Of r) none = ⊥
+Selects m mk (Of r) (some s) = Applies m mk r s
+
+-- how an exports field was resolved
 abbrev pub resolvedOf : (m url subpath path : List ℕ) → Resolved → exports.Resolved
 resolvedOf m url subpath path r =
     record {

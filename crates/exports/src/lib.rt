@@ -11,18 +11,18 @@ use targets::Outcome;
 use targets::Rank;
 ghost use mathlib.Core.Path.{_≡_};
 ghost use mathlib.Core.List.{List};
-ghost use Prim.Native.Nat.{ℕ, _≤_};
+ghost use Prim.Native.Nat.{ℕ, _≤_, _<_};
 ghost use lib.ListN.{length, drop};
 ghost use mathlib.Core.Bool.{_&&_, _||_};
 ghost use Rattle.definition.specs.Settings.{textsOf, settingsOf};
 ghost use mathlib.Core.Option.{Option, none};
 ghost use Rattle.definition.specs.Json.{Json, obj, Members, got, quoted};
 ghost use Rattle.package_json.specs.Values as values;
-ghost use Rattle.definition.specs.Exports.{isSubpathKey, isDotKey, anyKey, Entry, entries, get, better as betterOf, best as bestOf, literal, asSelected, selectedResolve, mainExport, mainResolve, PACKAGE-IMPORTS-EXPORTS-RESOLVE, PACKAGE-EXPORTS-RESOLVE};
+ghost use Rattle.definition.specs.Exports.{isSubpathKey, isDotKey, anyKey, Entry, entries, get, better as betterOf, best as bestOf, literal, asSelected, select as selectOf, mainExport, mainResolve, PACKAGE-IMPORTS-EXPORTS-RESOLVE, PACKAGE-EXPORTS-RESOLVE};
 ghost use Rattle.targets.specs.Contexts.{contextOf};
 ghost use Rattle.targets.specs.Answers.{answerOf};
 ghost use Rattle.package_target.specs.Places.{Stands};
-ghost use Rattle.exports.specs.Chosen.{Finds, aKey, joinedKeys, keysOf, BestOf, formOf, resolvedOf, fresh, dotRequest, keysOrNot, IsWhole};
+ghost use Rattle.exports.specs.Chosen.{Finds, aKey, joinedKeys, keysOf, BestOf, formOf, partOf, Selects, resolvedOf, fresh, dotRequest, keysOrNot, IsWhole};
 
 // What the keys of an object begin with.
 struct KeyMarks {
@@ -189,24 +189,6 @@ pub enum Key {
     At(usize),
 }
 
-// How an exports field was resolved: an answer, with the key that led to the target and the part of the subpath that matched.
-pub struct Resolved {
-    pub answer: Answer,
-    pub key: Key,
-    pub matched: Match,
-}
-
-// An end that speaks of the subpath.
-fn unresolved(c: Context, outcome: Outcome) -> Resolved
-    ensures { λ r. ⌜ (r .answer .context ≡ c) × (r .answer .outcome ≡ outcome) × (r .key ≡ Key.Subpath) ⌝ }
-{
-    Resolved {
-        answer: targets::without_path(c, outcome),
-        key: Key::Subpath,
-        matched: Match::Nothing,
-    }
-}
-
 // The value of the literal key: a match key with a star is none.
 fn literal_at(m: &[u8], at: usize, match_key: &[u8]) -> Cursor
     ensures { λ r. ⌜ ((ms : Members) → Stands (now (m .entry)) 15 at (obj ms) → Finds (now (m .entry)) 14 (literal (now («match_key» .entry)) (entries ms)) r) ⌝ }
@@ -226,50 +208,98 @@ fn form_of(starred: bool) -> Form
     Form::Folder
 }
 
-// The target of the best pattern key.
-fn pattern_resolve(
-    m: &[u8],
-    at: usize,
-    settings: &[u8],
-    url: &[u8],
-    match_key: &[u8],
-    c: Context,
-    work: &mut [u8],
-    path: &mut [u8; 2048],
-) -> Resolved
+// The member of a map that applies to a match key, the literal key's being Key::Subpath: the place of its last value,
+// and the part of the match key that a pattern key leaves over, with the form in which a target takes it.
+pub struct Member {
+    pub key: Key,
+    pub value: usize,
+    pub matched: Match,
+    pub form: Form,
+}
+
+pub enum Selected {
+    Nothing,
+    Of(Member),
+}
+
+// The part of a match key that matched; all of it for a literal key, whose targets take none.
+pub fn matched_part(match_key: &[u8], matched: Match) -> &[u8]
+    ensures { λ r. ⌜ now r ≡ partOf (now («match_key» .entry)) matched ⌝ }
+{
+    match matched {
+        Match::Nothing => match_key,
+        Match::Part { start, len } => text::part(match_key, start, len),
+    }
+}
+
+// The best pattern key's member.
+fn select_pattern(m: &[u8], at: usize, match_key: &[u8], work: &mut [u8]) -> Selected
     requires { ⌜ 1024 ≤ length (now work) ⌝ }
-    ensures { λ r. ⌜ ((ms : Members) → Stands (now (m .entry)) 15 at (obj ms) → resolvedOf (now (m .entry)) (now (url .entry)) (now («match_key» .entry)) (now (path .exit)) r ≡ selectedResolve (now (url .entry)) (textsOf (now (settings .entry)) 0) (asSelected (now («match_key» .entry)) (bestOf (now («match_key» .entry)) none (entries ms))) (contextOf (now (m .entry)) c)) ⌝ }
+    ensures { λ r. ⌜ ((ms : Members) → Stands (now (m .entry)) 15 at (obj ms) → Selects (now (m .entry)) (now («match_key» .entry)) r (asSelected (now («match_key» .entry)) (bestOf (now («match_key» .entry)) none (entries ms)))) ⌝ }
 {
     let best = best_key(m, at, match_key, work);
     let found = best.found;
     if !found {
-        return unresolved(c, Outcome::Nothing);
+        return Selected::Nothing;
     }
     let key = best.key;
     let found_value = value_of(m, at, key, work);
     let Cursor::At(value) = found_value else {
-        return unresolved(c, Outcome::Nothing);
+        return Selected::Nothing;
     };
     let start = best.start;
     let len = best.len;
     let rank = best.rank;
     let form = form_of(rank.starred);
-    let answer = package_target::package_target_resolve(
-        m,
-        value,
-        14,
-        settings,
-        url,
-        form,
-        text::part(match_key, start, len),
-        c,
-        work,
-        path,
-    );
-    Resolved {
-        answer,
+    Selected::Of(Member {
         key: Key::At(key),
+        value,
         matched: Match::Part { start, len },
+        form,
+    })
+}
+
+// The member that applies to a match key in the object at a place of the manifest m, an exports or an imports map. Where
+// work has fewer than 1,024 bytes there is none; where no object stands there, the answer is free. Work ends with any
+// other bytes.
+pub fn select(m: &[u8], at: usize, match_key: &[u8], work: &mut [u8]) -> Selected
+    ensures { λ r. ⌜ ((ms : Members) → 1024 ≤ length (now (work .entry)) → Stands (now (m .entry)) 15 at (obj ms) → Selects (now (m .entry)) (now («match_key» .entry)) r (selectOf (now («match_key» .entry)) (entries ms))) ⌝ }
+    ensures { λ r. ⌜ (length (now (work .entry)) < 1024 → r ≡ Selected.Nothing) ⌝ }
+    ensures { λ r. ⌜ length (now (work .exit)) ≡ length (now (work .entry)) ⌝ }
+{
+    if work.len() < 1024 {
+        return Selected::Nothing;
+    }
+    if text::ends_with(match_key, b"/") {
+        return Selected::Nothing;
+    }
+    let literal = literal_at(m, at, match_key);
+    match literal {
+        Cursor::Nothing => select_pattern(m, at, match_key, work),
+        Cursor::At(value) => Selected::Of(Member {
+            key: Key::Subpath,
+            value,
+            matched: Match::Nothing,
+            form: Form::Plain,
+        }),
+    }
+}
+
+// How an exports field was resolved: an answer, with the key that led to the target and the part of the subpath that matched.
+pub struct Resolved {
+    pub answer: Answer,
+    pub key: Key,
+    pub matched: Match,
+}
+
+// An end that speaks of the subpath.
+fn unresolved(c: Context, outcome: Outcome) -> Resolved
+    ensures { λ r. ⌜ (r .answer .context ≡ c) × (r .answer .outcome ≡ outcome) × (r .key ≡ Key.Subpath) ⌝ }
+{
+    Resolved {
+        answer: targets::without_path(c, outcome),
+        key: Key::Subpath,
+        matched: Match::Nothing,
     }
 }
 
@@ -286,31 +316,30 @@ fn package_imports_exports_resolve(
     requires { ⌜ 1024 ≤ length (now work) ⌝ }
     ensures { λ r. ⌜ ((ms : Members) → Stands (now (m .entry)) 15 at (obj ms) → resolvedOf (now (m .entry)) (now (url .entry)) (now («match_key» .entry)) (now (path .exit)) r ≡ PACKAGE-IMPORTS-EXPORTS-RESOLVE (now (url .entry)) (textsOf (now (settings .entry)) 0) (now («match_key» .entry)) (entries ms) (contextOf (now (m .entry)) c)) ⌝ }
 {
-    if text::ends_with(match_key, b"/") {
+    let selected = select(m, at, match_key, work);
+    let Selected::Of(member) = selected else {
         return unresolved(c, Outcome::Nothing);
-    }
-    let literal = literal_at(m, at, match_key);
-    match literal {
-        Cursor::Nothing => pattern_resolve(m, at, settings, url, match_key, c, work, path),
-        Cursor::At(i) => {
-            let answer = package_target::package_target_resolve(
-                m,
-                i,
-                14,
-                settings,
-                url,
-                Form::Plain,
-                match_key,
-                c,
-                work,
-                path,
-            );
-            Resolved {
-                answer,
-                key: Key::Subpath,
-                matched: Match::Nothing,
-            }
-        }
+    };
+    let value = member.value;
+    let form = member.form;
+    let matched = member.matched;
+    let answer = package_target::package_target_resolve(
+        m,
+        value,
+        14,
+        settings,
+        url,
+        form,
+        matched_part(match_key, matched),
+        c,
+        work,
+        path,
+    );
+    let key = member.key;
+    Resolved {
+        answer,
+        key,
+        matched,
     }
 }
 

@@ -88,12 +88,12 @@ beforeFragment-short p (b ∷ s) =
     let h : length (beforeFragment b s) ≤ length s = beforeFragment-short b s in
     if-short (suc (length s)) (eqb b hash && not (eqb p 0)) [] (b ∷ beforeFragment b s) (omega arith) (omega arith)
 
-body-short : (s : List ℕ) → length (body s) ≤ length s
+pub body-short : (s : List ℕ) → length (body s) ≤ length s
 unfolding body
 body-short [] = omega arith
 body-short (b ∷ s) = omega (arith, beforeFragment-short b s)
 
-unescape-short : (s : List ℕ) → length (unescape s) ≤ length s
+pub unescape-short : (s : List ℕ) → length (unescape s) ≤ length s
 unfolding unescape
 unescape-short [] = omega arith
 unescape-short (b ∷ s) =
@@ -149,15 +149,15 @@ record RequestFits (q : Request) : Type 0 where
   matched : length (orDot (q .matched)) ≤ 1024
 
 -- the texts of each error
-fits-1 : (t : List ℕ) → length t ≤ 6157 → length (joined (t ∷ [])) ≤ 6157
+pub fits-1 : (t : List ℕ) → length t ≤ 6157 → length (joined (t ∷ [])) ≤ 6157
 unfolding joined
 fits-1 t h = omega (arith, length-append t [])
 
-fits-2 : (s t : List ℕ) → length s + length t ≤ 6157 → length (joined (s ∷ t ∷ [])) ≤ 6157
+pub fits-2 : (s t : List ℕ) → length s + length t ≤ 6157 → length (joined (s ∷ t ∷ [])) ≤ 6157
 unfolding joined
 fits-2 s t h = omega (arith, length-append s (t ++ []), length-append t [])
 
-fits-3 : (r s t : List ℕ) → length r + length s + length t ≤ 6157 → length (joined (r ∷ s ∷ t ∷ [])) ≤ 6157
+pub fits-3 : (r s t : List ℕ) → length r + length s + length t ≤ 6157 → length (joined (r ∷ s ∷ t ∷ [])) ≤ 6157
 unfolding joined
 fits-3 r s t h = omega (arith, length-append r (s ++ (t ++ [])), length-append s (t ++ []), length-append t [])
 
@@ -211,31 +211,33 @@ keeps-fits = record {
 }
 
 -- the part matched is no longer than the match key
-record PartFits (o : Option (List ℕ)) : Type 0 where
-  short : length (orDot o) ≤ 1024
+record PartFits (n : ℕ) (o : Option (List ℕ)) : Type 0 where
+  short : length (orDot o) ≤ n
 
-no-part : PartFits none
+no-part : (n : ℕ) → 1 ≤ n → PartFits n none
 unfolding orDot
-no-part = record { short = omega arith }
+no-part n h = record { short = omega arith }
 
-some-part : (m : List ℕ) → length m ≤ 1024 → PartFits (some m)
+some-part : (n : ℕ) (m : List ℕ) → length m ≤ n → PartFits n (some m)
 unfolding orDot
-some-part m h = record { short = h }
+some-part n m h = record { short = h }
 
-if-part : (u : Bool) {a b : Option (List ℕ)} → PartFits a → PartFits b → PartFits (if u then a else b)
-if-part true x y = x
-if-part false x y = y
+if-part : (n : ℕ) (u : Bool) {a b : Option (List ℕ)} → PartFits n a → PartFits n b → PartFits n (if u then a else b)
+if-part n true x y = x
+if-part n false x y = y
 
-match-short : (mk k : List ℕ) → length mk ≤ 1024 → PartFits (patternMatch mk k)
+pub match-short : (n : ℕ) (mk k : List ℕ) → length mk ≤ n → 1 ≤ n → length (orDot (patternMatch mk k)) ≤ n
 unfolding patternMatch starMatch
-match-short mk k h =
+match-short n mk k h o =
     let base = before star k in
     let trailer = after star k in
-    if-part (not (isSubpathKey k)) no-part
-    (if-part (contains star k)
-    (if-part (startsWith base mk && not (contains star trailer) && (equal trailer [] || (leb (length k) (length mk) && endsWith trailer mk)))
-    (some-part (take (length mk - length base - length trailer) (drop (length base) mk)) (omega (arith, length-take (length mk - length base - length trailer) (drop (length base) mk), length-drop (length base) mk))) no-part)
-    (if-part (endsWith (text "/") k && startsWith k mk) (some-part (drop (length k) mk) (omega (arith, length-drop (length k) mk))) no-part))
+    if-part n (not (isSubpathKey k)) (no-part n o)
+    (if-part n (contains star k)
+    (if-part n (startsWith base mk && not (contains star trailer) && (equal trailer [] || (leb (length k) (length mk) && endsWith trailer mk)))
+    (some-part n (take (length mk - length base - length trailer) (drop (length base) mk))
+    (omega (arith, length-take (length mk - length base - length trailer) (drop (length base) mk), length-drop (length base) mk))) (no-part n o))
+    (if-part n (endsWith (text "/") k && startsWith k mk) (some-part n (drop (length k) mk) (omega (arith, length-drop (length k) mk))) (no-part n o)))
+    .short
 
 pub exports-fit : (url : List ℕ) (conds : List (List ℕ)) (subpath : List ℕ) (j : Json) (c : Context) → length url ≤ 1024 → length subpath ≤ 1024 → Strings Small j → ContextFits c
     → Kept ContextFits OutcomeFits (PACKAGE-EXPORTS-RESOLVE url conds subpath j c)
@@ -243,8 +245,8 @@ unfolding failureTexts orDot
 exports-fit url conds sub j c u s x g =
     exports-kept keeps-fits url conds sub
     (record { url = u; key = omega arith; matched = omega arith })
-    (record { url = u; key = s; matched = omega arith })
-    (λ k h. record { url = u; key = h; matched = match-short sub k s .short })
+    (λ k h. record { url = u; key = h; matched = omega arith })
+    (λ k h. record { url = u; key = h; matched = match-short 1024 sub k s (omega arith) })
     (fits-1 (manifestOf url) (omega (arith, manifest-short url)))
     (fits-2 sub url (omega arith))
     j c x g

@@ -5,14 +5,14 @@ use mathlib.Core.Bool.{Bool, true, false, not, _&&_, _||_, and-false, and-assoc,
 use mathlib.Core.List.{List, [], _∷_, _++_}
 use mathlib.Core.Option.{none, some}
 use native.Mathlib.Omega.{arith}
-use borrow.Author.Tests.{eqb-true, eqb-false, eq-eqb, ne-eqb}
-use lib.Dec.{eqb}
+use borrow.Author.Tests.{eqb-true, eqb-false, eq-eqb, ne-eqb, leb-true, not-true}
+use lib.Dec.{eqb, leb}
 use lib.ListN.{length, drop, take, getD, length-append, length-take, drop-of-length-le}
 use lib.Seq.{take-append-add, append-snoc, drop-cons, drop-nil}
-use Rattle.definition.specs.Text.{text, if_then_else_, slash, equal, startsWith, contains, containsText, before, after, toFirst, split}
+use Rattle.definition.specs.Text.{text, if_then_else_, slash, equal, startsWith, isUtf8, contains, containsText, before, after, toFirst, split}
 use Rattle.laws.specs.TextLaws.{before-after, and-true}
 use Rattle.definition.specs.Path.{component, leading, components}
-use Rattle.definition.specs.Specifier.{packageName, firstIsNormal, isBare, normalizedSpecifier, climbing, specifier-computes}
+use Rattle.definition.specs.Specifier.{packageName, firstIsNormal, isBare, normalizedSpecifier, climbing, isHash, isSpecifier, specifier-computes}
 
 -- the byte c stands at a place, or it does not
 pub starts-at : (c : ℕ) (s : List ℕ) (i : ℕ) → i < length s → getD s i 0 ≡ c → startsWith (c ∷ []) (drop i s) ≡ true
@@ -170,3 +170,19 @@ module _ (s : List ℕ) where
   pub climbing-above : containsText (text "/../..") s || containsText (text "../../") s ≡ true → equal (packageName (normalizedSpecifier s)) (text "..") ≡ true → climbing s ≡ some (normalizedSpecifier s)
   unfolding climbing
   climbing-above h k = rw (h, k)
+
+-- a question's specifier is no longer than 512 bytes, and no "#" name: those are refused as 22 so far
+module _ (s : List ℕ) (h : isSpecifier s ≡ true) where
+  bare-and-short : (isBare s ≡ true) × (leb (length s) 512 ≡ true)
+  unfolding isSpecifier
+  bare-and-short =
+      let a = and-true (isBare s && leb (length s) 512 && not (contains 0 s)) (isUtf8 s) h in
+      let b = and-true (isBare s && leb (length s) 512) (not (contains 0 s)) (a .0) in
+      and-true (isBare s) (leb (length s) 512) (b .0)
+
+  pub specifier-short : length s ≤ 512
+  specifier-short = leb-true (length s) 512 (bare-and-short .1)
+
+  pub specifier-bare : isHash s ≡ false
+  unfolding isHash isBare
+  specifier-bare = not-true _ (and-true (firstIsNormal (components s)) (not (startsWith (text "#") s)) (bare-and-short .0) .1)

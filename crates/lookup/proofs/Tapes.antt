@@ -2,7 +2,7 @@
 use mathlib.Core.Path.{_≡_, refl, sym, _∙_}
 use mathlib.Core.Bool.{Bool, true, false}
 use mathlib.Core.List.{List, [], _∷_, map}
-use Prim.Native.Nat.{ℕ, suc, _+_, _≤_}
+use Prim.Native.Nat.{ℕ, suc, _+_, _≤_, min}
 use native.Mathlib.Omega.{arith}
 use borrow.Author.Tests.{ltb-true, ltb-false}
 use lib.Dec.{ltb}
@@ -28,25 +28,27 @@ overwrite-set at x t d = by (ltb at (length d)) refl
 
 pub record Noted (t : Tape) (l : List Consult) : Type 0 where
   pub count : written t l .count ≡ t .count + length l
-  pub size : written t l .size ≡ t .size + length (joined (paths l))
+  pub size : written t l .size ≡ min (t .size + length (joined (paths l))) most
   pub numbers : written t l .numbers ≡ overwrite (t .count + 2) (map packedOf l) (t .numbers)
-  pub text : written t l .text ≡ overwrite (t .size) (joined (paths l)) (t .text)
+  pub text : t .size + length (joined (paths l)) ≤ most → written t l .text ≡ overwrite (t .size) (joined (paths l)) (t .text)
   pub result : written t l .result ≡ t .result
 
 -- short of 2 ^ 32 the counts are exact
-pub noted : (t : Tape) (l : List Consult) → t .count + length l ≤ most → t .size + length (joined (paths l)) ≤ most → Noted t l
+pub noted : (t : Tape) (l : List Consult) → t .count + length l ≤ most → t .size ≤ most → Noted t l
 unfolding written put joined paths
-noted t [] h k = record { count = omega arith; size = omega arith; numbers = sym (overwrite-nil _ _); text = sym (overwrite-nil _ _); result = refl }
+noted t [] h k = record { count = omega arith; size = omega arith; numbers = sym (overwrite-nil _ _); text = λ s. sym (overwrite-nil _ _); result = refl }
 noted t (c ∷ l) h k =
-    let s : t .size + length (c .path) + length (joined (paths l)) ≤ most = omega (arith, length-append (c .path) (joined (paths l))) in
+    let e = length-append (c .path) (joined (paths l)) in
     let n : put t c .count ≡ t .count + 1 = omega arith in
-    let z : put t c .size ≡ t .size + length (c .path) = omega arith in
+    let z : put t c .size ≡ min (t .size + length (c .path)) most = refl in
     let at-next : put t c .count + 2 ≡ suc (t .count + 2) = omega arith in
     let r : Noted (put t c) l = noted (put t c) l (omega arith) (omega arith) in
     record {
       count = r .count ∙ omega arith;
-      size = r .size ∙ omega (arith, length-append (c .path) (joined (paths l)));
+      size = r .size ∙ omega arith;
       numbers = r .numbers ∙ rw at-next (overwrite-set (t .count + 2) (packedOf c) (map packedOf l) (t .numbers));
-      text = r .text ∙ rw z (overwrite-append (t .size) (c .path) (joined (paths l)) (t .text));
+      text = λ s.
+          let y : put t c .size ≡ t .size + length (c .path) = omega arith in
+          r .text (omega arith) ∙ rw y (overwrite-append (t .size) (c .path) (joined (paths l)) (t .text));
       result = r .result;
     }

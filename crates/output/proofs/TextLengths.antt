@@ -5,7 +5,7 @@ use Prim.Native.Nat.{_+_}
 use native.Mathlib.Omega.{arith}
 use lib.ListN.{length, length-append}
 use Rattle.definition.specs.Text.{Text}
-use Rattle.definition.specs.Exports.{failureTexts, NotFound, Empty, InvalidPackageTarget, PackagePathNotExported, InvalidPackageConfig, InvalidPackageConfigDirectory, JsonError}
+use Rattle.definition.specs.Exports.{failureTexts, NotFound, Empty, InvalidPackageTarget, PackagePathNotExported, InvalidPackageConfig, InvalidPackageConfigDirectory, JsonError, InvalidModuleSpecifier, PackageImportNotDefined, Recursion}
 use Rattle.definition.specs.Manifest.{failed, refused, End, found, stopped, endTexts}
 use Rattle.definition.specs.Called.{joined}
 use Rattle.consults.specs.Tape.{endingOf}
@@ -25,13 +25,16 @@ three a b c = omega (arith, length-append a (b ++ (c ++ [])), length-append b (c
 texts-length : (e : End) → textLength (endingOf e) ≡ length (joined (endTexts e))
 unfolding endingOf endTexts failureTexts joined
 texts-length (found w) = three (w .path) (w .query) (w .fragment)
-texts-length (stopped (failed (NotFound s))) = one s
-texts-length (stopped (failed (Empty t))) = one t
-texts-length (stopped (failed (InvalidPackageTarget t k m))) = three t k m
-texts-length (stopped (failed (PackagePathNotExported s p))) = two s p
-texts-length (stopped (failed (InvalidPackageConfig m))) = one m
-texts-length (stopped (failed (InvalidPackageConfigDirectory m))) = one m
-texts-length (stopped (failed (JsonError m))) = one m
+texts-length (stopped (failed (NotFound s) c)) = one s
+texts-length (stopped (failed (Empty t) c)) = one t
+texts-length (stopped (failed (InvalidPackageTarget t k m) c)) = three t k m
+texts-length (stopped (failed (PackagePathNotExported s p) c)) = two s p
+texts-length (stopped (failed (InvalidPackageConfig m) c)) = one m
+texts-length (stopped (failed (InvalidPackageConfigDirectory m) c)) = one m
+texts-length (stopped (failed (JsonError m) c)) = one m
+texts-length (stopped (failed (InvalidModuleSpecifier s m) c)) = two s m
+texts-length (stopped (failed (PackageImportNotDefined s m) c)) = two s m
+texts-length (stopped (failed Recursion c)) = refl
 texts-length (stopped (refused r)) = refl
 
 pub length-of : (x : Ending) (e : End) → x ≡ endingOf e → textLength x ≡ length (joined (endTexts e))

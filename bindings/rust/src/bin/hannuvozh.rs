@@ -15,8 +15,9 @@ hannuvozh resolve FOLDER START SPECIFIER [OPTION TEXT]..
 hannuvozh check FOLDER                           says which package.json of the folder no lookup can read, and warns of member names that
                                                  come more than once in one object
 
-OPTION is --condition, --extension, --main-field, --main-file or --exports-field, each as often as wanted. Without any: the conditions
-node and require, the extensions .js, .json and .node, main, index, exports.
+OPTION is --condition, --extension, --main-field, --main-file or --exports-field, each as often as wanted, or --imports-field, which sets
+the one imports field (imports if not given). Without any: the conditions node and require, the extensions .js, .json and .node, main,
+index, exports, imports.
 
 First may stand: --plain, which leaves the words out; --limit N, which refuses a lookup that needs more than N consults (18777 if not
 given, which no bare name passes); --preview, a limit of 512.
@@ -38,6 +39,7 @@ fn settings(options: &[&str]) -> Result<Settings, String> {
             "--main-field" => made.main_field(text),
             "--main-file" => made.main_file(text),
             "--exports-field" => made.exports_field(text),
+            "--imports-field" => made.imports_field(text),
             _ => return Err(format!("{option} is no option")),
         };
     }
@@ -91,7 +93,7 @@ fn ways<'a, 'b>(mut args: &'a [&'b str]) -> Result<(Ways, &'a [&'b str]), String
     }
 }
 
-fn print(plain: bool, start: &str, specifier: &str, outcome: &Result<Lookup, Refused>) -> u8 {
+fn print(plain: bool, start: &str, specifier: &str, settings: &[u8], outcome: &Result<Lookup, Refused>) -> u8 {
     if !plain {
         println!("{specifier}, asked for from {start}:");
     }
@@ -108,6 +110,9 @@ fn print(plain: bool, start: &str, specifier: &str, outcome: &Result<Lookup, Ref
         Err(refused) => {
             if !plain {
                 println!("refused: {refused}; {} can mend it", refused.refusal().cause());
+                if let (Refusal::Settings, Err(fault)) = (refused.refusal(), Settings::from_bytes(settings)) {
+                    println!("{fault}");
+                }
                 println!("{} paths were consulted", refused.consults());
             }
             println!("{}", refused.refusal().number());
@@ -124,8 +129,9 @@ fn question() -> Result<(Vec<u8>, Vec<u8>), String> {
 }
 
 fn ask(ways: &Ways, start: &[u8], specifier: &[u8]) -> Result<u8, String> {
-    let outcome = lookup_with(ways.options, &read("tree")?, &read("settings")?, start, specifier);
-    Ok(print(ways.plain, &String::from_utf8_lossy(start), &String::from_utf8_lossy(specifier), &outcome))
+    let settings = read("settings")?;
+    let outcome = lookup_with(ways.options, &read("tree")?, &settings, start, specifier);
+    Ok(print(ways.plain, &String::from_utf8_lossy(start), &String::from_utf8_lossy(specifier), &settings, &outcome))
 }
 
 /// The exit status that a manifest's fault gives, which the lookup finds: it is the first thing read where a name is asked for beside it.
@@ -177,8 +183,9 @@ fn run(args: &[&str]) -> Result<u8, String> {
         }
         ["check", folder] => check(Path::new(folder)).map_err(words),
         ["resolve", folder, start, specifier, options @ ..] => {
-            let packed = resolve_with(ways.options, Path::new(folder), &settings(options)?, start, specifier).map_err(words)?;
-            Ok(print(ways.plain, start, specifier, &packed.outcome))
+            let settings = settings(options)?;
+            let packed = resolve_with(ways.options, Path::new(folder), &settings, start, specifier).map_err(words)?;
+            Ok(print(ways.plain, start, specifier, &settings.to_bytes(), &packed.outcome))
         }
         _ => Err(HELP.into()),
     }

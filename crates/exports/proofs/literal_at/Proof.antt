@@ -1,7 +1,7 @@
 use borrow.Author.Needs.{needs}
 use mathlib.Core.Path.{sym, _∙_}
 use Rattle.definition.specs.Exports.{entries}
-use Rattle.exports.proofs.Resolutions.{get-finds, literal-star, literal-get}
+use Rattle.exports.proofs.Selections.{get-finds, literal-star, literal-get}
 use Rattle.exports.proofs.literal_at.Statement.{statement}
 use Rattle.exports.proofs.literal_at.Tie as tie
 

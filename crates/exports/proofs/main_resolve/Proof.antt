@@ -8,7 +8,8 @@ use Rattle.targets.specs.declared.Outcome.the-variants.{Nothing}
 use Rattle.exports.specs.Chosen.{fresh, dotRequest}
 use Rattle.package_target.proofs.Loops.{nothingYet}
 use Rattle.targets.proofs.Targets.{outcome-is}
-use Rattle.exports.proofs.Resolutions.{get-finds, finds-some, finds-none, dot-asked, main-dot, main-none, main-whole}
+use Rattle.exports.proofs.Selections.{get-finds, finds-some, finds-none}
+use Rattle.exports.proofs.Resolutions.{dot-asked, main-dot, main-none, main-whole}
 use Rattle.exports.proofs.main_resolve.Statement.{statement}
 use Rattle.exports.proofs.main_resolve.Tie as tie
 

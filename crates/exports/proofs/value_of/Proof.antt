@@ -3,7 +3,7 @@ use mathlib.Core.Path.{_∙_, ap}
 use lib.ListN.{drop}
 use Rattle.definition.specs.JsonAt.{getAt}
 use Rattle.package_target.proofs.Places.{name-stands, text-target}
-use Rattle.exports.proofs.Resolutions.{get-finds}
+use Rattle.exports.proofs.Selections.{get-finds}
 use borrow.Author.Needs.{needs}
 use Rattle.exports.proofs.value_of.Statement.{statement}
 use Rattle.exports.proofs.value_of.Tie as tie
