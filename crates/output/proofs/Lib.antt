@@ -1,4 +1,3 @@
 pub mod Spreading
-pub mod TextLengths
 pub mod Filling
 pub mod Delivering
