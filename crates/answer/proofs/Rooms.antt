@@ -11,8 +11,7 @@ use Rattle.listing_check.specs.declared.Checked.the-variants.{Accepted, Refused
 use Rattle.consults.specs.Tape.{most}
 use Rattle.consults.specs.declared.Ending.{Ending}
 use Rattle.consults.specs.declared.Mark.{Mark}
-use Rattle.consults.specs.Meaning.{textLength}
-use Rattle.answer.specs.Room.{isAnswerNumber, numbersLength, textsFit, listFits, Room, checkedBy}
+use Rattle.answer.specs.Room.{isAnswerNumber, textLength, numbersLength, textsFit, listFits, Room, checkedBy}
 
 -- what is left of a room, and the whole
 pub leb-less : (a b c r : ℕ) → a + b ≤ r → leb c (r - a - b) ≡ leb (a + b + c) r

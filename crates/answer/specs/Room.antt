@@ -6,7 +6,6 @@ use Rattle.definition.specs.Text.{if_then_else_}
 use Rattle.listing_check.specs.declared.Checked.{Checked}
 use Rattle.listing_check.specs.declared.Checked.the-variants.{Accepted, Refused}
 use Rattle.consults.specs.Tape.{most}
-use Rattle.consults.specs.Meaning.{textLength}
 use Rattle.consults.specs.declared.Ending.{Ending}
 use Rattle.consults.specs.declared.Mark.{Mark}
 
@@ -14,7 +13,10 @@ use Rattle.consults.specs.declared.Mark.{Mark}
 abbrev pub isAnswerNumber : ℕ → Bool
 isAnswerNumber n = eqb n 50 || (eqb n 51 || (eqb n 56 || leb n 7))
 
--- the list numbers of so many consults
+-- an ending's texts, and the list numbers, have so many bytes and numbers
+abbrev pub textLength : Ending → ℕ
+textLength x = x .first + x .second + x .third
+
 abbrev pub numbersLength : Mark → ℕ
 numbersLength k = 2 + 2 * k .count
 

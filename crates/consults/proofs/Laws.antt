@@ -2,7 +2,7 @@
 use mathlib.Core.Path.{_≡_, refl, sym, _∙_, ap}
 use mathlib.Core.Bool.{Bool, true, false}
 use mathlib.Core.List.{List, [], _∷_, _++_}
-use Prim.Native.Nat.{ℕ, zero, suc, _+_, _≤_, _<_, min}
+use Prim.Native.Nat.{ℕ, zero, suc, _+_, _≤_, _<_}
 use native.Mathlib.Omega.{arith}
 use borrow.Author.Tests.{ltb-true, ltb-false}
 use lib.Dec.{ltb}
@@ -32,13 +32,3 @@ module _ (at n : ℕ) (a b d e : Text) (k : n ≡ at + length a) (h : e ≡ over
 
   pub overwrite-full : length e ≤ n → e ≡ overwrite at (a ++ b) d
   overwrite-full z = sym (overwrite-past n b e z) ∙ overwrite-next
-
--- a place past the end is the end
-pub overwrite-within : (n at : ℕ) (b d : Text) → n ≡ min at (length d) → overwrite n b d ≡ overwrite at b d
-overwrite-within n at b d e = go (ltb at (length d)) refl
-  where
-    go : (t : Bool) → ltb at (length d) ≡ t → overwrite n b d ≡ overwrite at b d
-    go true h = ap (λ k. overwrite k b d) (let z : at < length d = ltb-true _ _ h in omega (arith, e))
-    go false h =
-        let z : length d ≤ at = ltb-false _ _ h in
-        overwrite-past n b d (omega (arith, e)) ∙ sym (overwrite-past at b d z)

@@ -7,10 +7,11 @@ use native.Mathlib.Omega.{arith}
 use lib.ListN.{length}
 use Rattle.definition.specs.Text.{overwrite}
 use Rattle.definition.specs.Ask.{Listing, Consult, Step, go, stop, Ask, end, answer, log, within, catch, _>>=_}
-use Rattle.definition.specs.Manifest.{End}
+use Rattle.definition.specs.Manifest.{End, endTexts}
+use Rattle.definition.specs.Called.{joined}
 use Rattle.laws.specs.CatchLaws.{answer-caught, log-caught}
 use Rattle.consults.specs.declared.Ending.{Ending}
-use Rattle.consults.specs.Tape.{Tape, put, written, endText, ended, after, numbered, over, Done, after-append}
+use Rattle.consults.specs.Tape.{Tape, put, written, ended, after, numbered, over, Done, after-append}
 
 -- the tape with another result text
 abbrev pub onto : List ℕ → Tape → Tape
@@ -25,7 +26,7 @@ pub record Caught {M A : Type 0} (L : Listing M) (t : Ask End M A) (s s′ : Tap
 -- the result text in which it was run
 unfoldable pub resulting : {A : Type 0} → List ℕ → Step End A → List ℕ
 resulting b (go a) = b
-resulting b (stop e) = overwrite 0 (endText e) b
+resulting b (stop e) = overwrite 0 (joined (endTexts e)) b
 
 written-left : (s : Tape) (l : List Consult) → written s l .left ≡ s .left - length l
 unfolding written put
@@ -70,7 +71,7 @@ module _ {M : Type 0} {L : Listing M} where
 
       at : (x : Step End A) → after (onto b s) l x ≡ s₁ → s₁ .result ≡ resulting b x
       at (go a) e = unfold after resulting in (rw (← e) (written-result (onto b s) l))
-      at (stop x) e = unfold after ended resulting in (rw (← e) (ap (overwrite 0 (endText x)) (written-result (onto b s) l)))
+      at (stop x) e = unfold after ended resulting in (rw (← e) (ap (overwrite 0 (joined (endTexts x))) (written-result (onto b s) l)))
 
   -- THE RULE: a routine that is caught, and what follows
   pub done-caught : {A B : Type 0} {t : Ask End M A} (f : Step End A → Ask End M B) → f (stop over) ≡ end over → {s s₁ s₂ : Tape} {x : Step End A} {r : Step Ending B}

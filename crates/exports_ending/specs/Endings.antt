@@ -2,9 +2,9 @@
 use mathlib.Core.Option.{Option}
 use Prim.Native.Nat.{ℕ}
 use Rattle.definition.specs.Text.{Text}
-use Rattle.definition.specs.Exports.{Context, PackagePathNotExported, Outcome, nothing, overlong}
+use Rattle.definition.specs.Exports.{Context}
 use Rattle.definition.specs.Ask.{Step, go, stop}
-use Rattle.definition.specs.Manifest.{Place, Stop, failed, refused, pathTooLong, fresh}
+use Rattle.definition.specs.Manifest.{Place}
 use Rattle.consults.specs.declared.Ending.{Ending}
 use Rattle.consults.specs.declared.Way.{Way}
 use Rattle.consults.specs.declared.Way.the-variants.{Next, Stopped}
@@ -15,13 +15,6 @@ use Rattle.directory.specs.Refusals.{roomIn, orLonger}
 abbrev pub foundOf : Context → Text → Way → Step Ending Place
 foundOf c t Next = go (place t (c .query) (c .fragment))
 foundOf c t (Stopped x) = stop x
-
--- `resolvedTo` of the definition, but an error leaves nothing yet
-unfoldable pub endingTo : Context → (dir sub : Text) → Outcome → Step Stop Place
-endingTo c dir sub (Outcome.found p) = go (place p (c .query) (c .fragment))
-endingTo c dir sub nothing = stop (failed (PackagePathNotExported sub dir) fresh)
-endingTo c dir sub (Outcome.failed f) = stop (failed f fresh)
-endingTo c dir sub overlong = stop (refused pathTooLong)
 
 -- 25 by the work memory, or else 42: the path of the manifest has more than 2,048 bytes
 abbrev pub roomNaming : (work manifest : ℕ) → Option ℕ

@@ -14,6 +14,7 @@ ghost use lib.ListN.{length};
 ghost use Rattle.definition.specs.Path.{manifestOf};
 ghost use Rattle.definition.specs.Exports.{Context, orDot};
 ghost use Rattle.definition.specs.Ask.{Listing};
+ghost use Rattle.definition.specs.Manifest.{resolvedTo};
 ghost use Rattle.definition.specs.Walk.{given};
 ghost use Rattle.targets.specs.Keys.{matchOf};
 ghost use Rattle.targets.specs.Answers.{outcomeIn};
@@ -21,7 +22,7 @@ ghost use Rattle.exports.specs.Chosen.{keyText};
 ghost use Rattle.consults.specs.Meaning.{tapeOf, Sees};
 ghost use Rattle.directory.specs.Routines.{Finishes};
 ghost use Rattle.directory.specs.Refusals.{DoneUnless};
-ghost use Rattle.exports_ending.specs.Endings.{foundOf, endingTo, roomNaming};
+ghost use Rattle.exports_ending.specs.Endings.{foundOf, roomNaming};
 
 // Whether the path of a directory's manifest, for which "/package.json" or "package.json" comes behind it, has at most 2,048 bytes.
 fn manifest_fits(dir: &[u8]) -> bool
@@ -112,7 +113,7 @@ pub fn exports_ending(
     result: &mut [u8],
     work: &mut [u8],
 ) -> Way
-    ensures { λ r. ⌜ ((L : Listing Sees) (numbers list : List ℕ) (mark : Mark) (c : Context) → DoneUnless L (given (endingTo c (now (dir .entry)) (now (subpath .entry)) (outcomeIn (now (dir .entry)) (keyText (now (m .entry)) (now (subpath .entry)) key) (matchOf (now (subpath .entry)) matched) outcome (now (target .entry))))) (tapeOf (now (result .entry)) numbers list mark) (roomNaming (length (now (work .entry))) (length (manifestOf (now (dir .entry))))) (tapeOf (now (result .exit)) numbers list mark) (foundOf c (now (target .entry)) r)) ⌝ }
+    ensures { λ r. ⌜ ((L : Listing Sees) (numbers list : List ℕ) (mark : Mark) (c : Context) → DoneUnless L (given (resolvedTo c (now (dir .entry)) (now (subpath .entry)) (outcomeIn (now (dir .entry)) (keyText (now (m .entry)) (now (subpath .entry)) key) (matchOf (now (subpath .entry)) matched) outcome (now (target .entry))))) (tapeOf (now (result .entry)) numbers list mark) (roomNaming (length (now (work .entry))) (length (manifestOf (now (dir .entry))))) (tapeOf (now (result .exit)) numbers list mark) (foundOf c (now (target .entry)) r)) ⌝ }
 {
     if work.len() < 1024 {
         return Way::Stopped(consults::refuse(25));

@@ -1,3 +1,4 @@
 pub mod Spreading
+pub mod TextLengths
 pub mod Filling
 pub mod Delivering

@@ -8,30 +8,20 @@ use package_json::TextAt;
 use package_name::Stripped;
 use path::PathBuf;
 use settings::Kind;
-use targets::Part;
-ghost use mathlib.Core.Path.{_≡_};
-ghost use mathlib.Core.List.{List};
-ghost use Prim.Native.Nat.{ℕ, _≤_};
+ghost use Prim.Native.Nat.{_≤_};
 ghost use lib.ListN.{length, drop};
 ghost use Rattle.definition.specs.Path.{manifestOf};
 ghost use Rattle.definition.specs.Json.{Json};
 ghost use Rattle.package_json.specs.Values.{Stands, Finds};
-ghost use Rattle.definition.specs.Exports.{Context};
-ghost use Rattle.definition.specs.Ask.{Listing};
 ghost use Rattle.definition.specs.Settings.{textsOf, settingsOf};
 ghost use Rattle.definition.specs.Manifest.{firstField, manifestView};
 ghost use Rattle.definition.specs.Called.{seenBy};
-ghost use Rattle.definition.specs.Walk.{Look, leaving, byExports, LOAD-PACKAGE-EXPORTS, inScope, LOAD-PACKAGE-SELF};
+ghost use Rattle.definition.specs.Walk.{byExports, LOAD-PACKAGE-EXPORTS, inScope, LOAD-PACKAGE-SELF};
 ghost use Rattle.package_json.specs.Cursors.{placed};
-ghost use Rattle.laws.specs.LeavingLaws.{Clean};
-ghost use Rattle.targets.specs.Contexts.{partText};
-ghost use Rattle.consults.specs.Tape.{Tape, Done};
-ghost use Rattle.consults.specs.Meaning.{tapeOf, stepOf, Sees};
+ghost use Rattle.consults.specs.Tape.{Done};
+ghost use Rattle.consults.specs.Meaning.{tapeOf, stepOf};
 ghost use Rattle.directory.specs.Refusals.{DoneUnless};
-ghost use Rattle.package_exports.specs.Routines.{resolvedFor, matchExports, longest, roomFor};
-
-// The longest name that is looked for, in bytes, and the longest subpath.
-pub const LONGEST: usize = 2048;
+ghost use Rattle.package_exports.specs.Routines.{matchExports, roomFor};
 
 // The first exports field of the settings that the manifest has.
 fn exports_field(m: &[u8], root: usize, s: &[u8]) -> Cursor
@@ -49,13 +39,6 @@ fn exports_field(m: &[u8], root: usize, s: &[u8]) -> Cursor
     Cursor::Nothing
 }
 
-// How an exports field ended, and the query that an error leaves: a part of the manifest.
-struct Matched {
-    way: Way,
-    mark: Mark,
-    query: Part,
-}
-
 // PACKAGE_EXPORTS_RESOLVE for the exports field at a place, and RESOLVE_ESM_MATCH for the path that it gives.
 fn resolve_exports(
     l: &[u8],
@@ -70,10 +53,9 @@ fn resolve_exports(
     text: &mut [u8],
     m: Mark,
     work: &mut [u8],
-) -> Matched
+) -> Out
     requires { ⌜ (1024 ≤ length (now work)) × (length (manifestOf (now dir)) ≤ 2048) ⌝ }
-    ensures { λ r. ⌜ ((j : Json) → Stands 15 (drop at (now (manifest .entry))) j → Done (seenBy (settingsOf (now (s .entry))) (now (l .entry))) (matchExports (settingsOf (now (s .entry))) (now (spec .entry)) (now (dir .entry)) (now (subpath .entry)) (resolvedFor (settingsOf (now (s .entry))) (now (dir .entry)) (now (subpath .entry)) j)) (tapeOf (now (result .entry)) (now (nums .entry)) (now (text .entry)) m) (tapeOf (now (result .exit)) (now (nums .exit)) (now (text .exit)) (r .mark)) (stepOf (r .way))) ⌝ }
-    ensures { λ r. ⌜ ((j : Json) → Stands 15 (drop at (now (manifest .entry))) j → partText (now (manifest .entry)) (r .query) ≡ resolvedFor (settingsOf (now (s .entry))) (now (dir .entry)) (now (subpath .entry)) j .context .query) ⌝ }
+    ensures { λ r. ⌜ ((j : Json) → Stands 15 (drop at (now (manifest .entry))) j → Done (seenBy (settingsOf (now (s .entry))) (now (l .entry))) (matchExports (settingsOf (now (s .entry))) (now (spec .entry)) (now (dir .entry)) (now (subpath .entry)) j) (tapeOf (now (result .entry)) (now (nums .entry)) (now (text .entry)) m) (tapeOf (now (result .exit)) (now (nums .exit)) (now (text .exit)) (r .mark)) (stepOf (r .way))) ⌝ }
 {
     let mut path = PathBuf::new();
     let r = exports::package_exports_resolve(manifest, at, s, dir, subpath, work, &mut path.bytes);
@@ -82,7 +64,6 @@ fn resolve_exports(
     let a = r.answer;
     let outcome = a.outcome;
     let context = a.context;
-    let query = context.query;
     path.len = a.len;
     let n = path.len;
     let target = path::first(&path.bytes, n);
@@ -98,13 +79,9 @@ fn resolve_exports(
         work,
     );
     let Way::Next = way else {
-        return Matched {
-            way,
-            mark: m,
-            query,
-        };
+        return Out { way, mark: m };
     };
-    let out = esm_match::resolve_in_context(
+    esm_match::resolve_in_context(
         l,
         s,
         spec,
@@ -116,25 +93,7 @@ fn resolve_exports(
         text,
         m,
         work,
-    );
-    let mark = out.mark;
-    let way = out.way;
-    Matched { way, mark, query }
-}
-
-// The query that an error leaves goes behind its texts. Where there is none, nothing is written.
-fn leave_query(manifest: &[u8], query: Part, way: Way, result: &mut [u8]) -> Way
-    ensures { λ r. ⌜ ((L : Listing Sees) (t : Look (Unit {0})) (c : Context) (s : Tape) (numbers list : List ℕ) (m : Mark) → Clean t → partText (now (manifest .entry)) query ≡ c .query → Done L t s (tapeOf (now (result .entry)) numbers list m) (stepOf way) → Done L (leaving c t) s (tapeOf (now (result .exit)) numbers list m) (stepOf r)) ⌝ }
-{
-    let Way::Stopped(x) = way else {
-        return way;
-    };
-    if query.len == 0 {
-        return way;
-    }
-    let mut bytes = [0u8; 1024];
-    let n = targets::part_text(manifest, query, &mut bytes);
-    Way::Stopped(consults::leave(x, path::first(&bytes, n), result))
+    )
 }
 
 // LOAD_PACKAGE_EXPORTS, 4. to 6.: without an exports field it comes back.
@@ -152,16 +111,16 @@ fn by_exports(
     m: Mark,
     work: &mut [u8],
 ) -> Out
-    requires { ⌜ (1024 ≤ length (now work)) × (length (now sub) ≤ longest) × (length (manifestOf (now dir)) ≤ 2048) ⌝ }
+    requires { ⌜ (1024 ≤ length (now work)) × (length (now sub) ≤ 512) × (length (manifestOf (now dir)) ≤ 2048) ⌝ }
     ensures { λ r. ⌜ ((j : Json) → Stands 16 (drop root (now (manifest .entry))) j → Done (seenBy (settingsOf (now (s .entry))) (now (l .entry))) (byExports (settingsOf (now (s .entry))) (now (spec .entry)) (now (dir .entry)) (now (sub .entry)) (manifestView (settingsOf (now (s .entry))) j)) (tapeOf (now (result .entry)) (now (nums .entry)) (now (text .entry)) m) (tapeOf (now (result .exit)) (now (nums .exit)) (now (text .exit)) (r .mark)) (stepOf (r .way))) ⌝ }
 {
     let field = exports_field(manifest, root, s);
     let Cursor::At(at) = field else {
         return consults::next(m);
     };
-    let mut dotted = [0u8; LONGEST + 1];
+    let mut dotted = [0u8; 513];
     let n = package_name::dot_subpath(sub, &mut dotted);
-    let matched = resolve_exports(
+    resolve_exports(
         l,
         s,
         spec,
@@ -174,16 +133,11 @@ fn by_exports(
         text,
         m,
         work,
-    );
-    let query = matched.query;
-    let mark = matched.mark;
-    let way = matched.way;
-    let way = leave_query(manifest, query, way, result);
-    Out { way, mark }
+    )
 }
 
 // LOAD_PACKAGE_EXPORTS(X, DIR): a directory with no manifest of its own has no exports. It wants 1,024 bytes of work memory, which end as
-// any bytes, and a subpath of at most 2,048 bytes: else it refuses with 25 or 22 and has looked at nothing.
+// any bytes, and a subpath of at most 512 bytes: else it refuses with 25 or 22 and has looked at nothing.
 pub fn load_package_exports(
     l: &[u8],
     s: &[u8],
@@ -201,7 +155,7 @@ pub fn load_package_exports(
     if work.len() < 1024 {
         return consults::refused(25, m);
     }
-    if sub.len() > LONGEST {
+    if sub.len() > 512 {
         return consults::refused(22, m);
     }
     let found = directory::own(l, dir, result, nums, text, m);
@@ -251,7 +205,7 @@ fn in_scope(
     m: Mark,
     work: &mut [u8],
 ) -> Out
-    requires { ⌜ (1024 ≤ length (now work)) × (length (now spec) ≤ longest) × (length (manifestOf (now dir)) ≤ 2048) ⌝ }
+    requires { ⌜ (1024 ≤ length (now work)) × (length (now spec) ≤ 512) × (length (manifestOf (now dir)) ≤ 2048) ⌝ }
     ensures { λ r. ⌜ ((j : Json) → Stands 16 (drop root (now (manifest .entry))) j → Done (seenBy (settingsOf (now (s .entry))) (now (l .entry))) (inScope (settingsOf (now (s .entry))) (now (spec .entry)) (record { dir = now (dir .entry); manifest = manifestView (settingsOf (now (s .entry))) j })) (tapeOf (now (result .entry)) (now (nums .entry)) (now (text .entry)) m) (tapeOf (now (result .exit)) (now (nums .exit)) (now (text .exit)) (r .mark)) (stepOf (r .way))) ⌝ }
 {
     let t = directory::text_field(manifest, root, b"name", work);
@@ -281,7 +235,7 @@ fn in_scope(
 }
 
 // LOAD_PACKAGE_SELF(X, DIR): without a scope it comes back. It refuses as LOAD_PACKAGE_EXPORTS does, with 22 for a specifier that is over
-// 2,048 bytes long.
+// 512 bytes long.
 pub fn load_package_self(
     l: &[u8],
     s: &[u8],
@@ -298,7 +252,7 @@ pub fn load_package_self(
     if work.len() < 1024 {
         return consults::refused(25, m);
     }
-    if spec.len() > LONGEST {
+    if spec.len() > 512 {
         return consults::refused(22, m);
     }
     let found = directory::scope(l, start, result, nums, text, m);

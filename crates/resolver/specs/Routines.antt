@@ -6,7 +6,6 @@ use Rattle.definition.specs.Specifier.{climbing}
 use Rattle.definition.specs.Settings.{Settings}
 use Rattle.definition.specs.Ask.{_>>=_, _>>_}
 use Rattle.definition.specs.Walk.{Look, perhaps, LOAD-PACKAGE-SELF, LOAD-NODE-MODULES}
-use Rattle.package_exports.specs.Routines.{longest}
 
 -- the lookup as far as "not found"
 unfoldable pub loadPackage : Settings → (start spec : Text) → Look (Unit {0})
@@ -17,4 +16,4 @@ loadPackage G start spec = do
 
 -- too little work memory, or too long a specifier
 abbrev pub Refused : (work spec : ℕ) → Type 0
-Refused work spec = (work < 1024) ⊎ (longest < spec)
+Refused work spec = (work < 1024) ⊎ (512 < spec)

@@ -2,7 +2,7 @@
 use native.Mathlib.Omega.{arith}
 use borrow.Author.Needs.{needs}
 use borrow.Author.Tests.{lt-leb}
-use Rattle.consults.specs.Meaning.{textLength}
+use Rattle.answer.specs.Room.{textLength}
 use Rattle.answer.proofs.Rooms.{leb-less}
 use Rattle.answer.proofs.texts_fit.Statement.{statement}
 use Rattle.answer.proofs.texts_fit.Tie as tie

@@ -1,18 +1,17 @@
 use Rattle.definition.specs.Exports.{Empty, InvalidPackageTarget, PackagePathNotExported, InvalidPackageConfig, InvalidPackageConfigDirectory, failureNumber, failureTexts, pathNotExported}
-use Rattle.definition.specs.Manifest.{pathTooLong, refusalNumber}
+use Rattle.definition.specs.Manifest.{pathTooLong, refusalNumber, resolvedTo}
 use Rattle.definition.specs.Walk.{given}
 use Rattle.consults.specs.Tape.{done-ret}
 use Rattle.consults.proofs.Steps.{done-refuse, ends-failed}
 use Rattle.directory.proofs.Manifests.{ending-named}
 use Rattle.directory.proofs.Rooms.{is-done, is-refused, fits, no-room, too-long}
-use Rattle.exports_ending.specs.Endings.{endingTo}
 use Rattle.exports_ending.proofs.Failures.{done-failed, within, beyond}
 use borrow.Author.Needs.{needs}
 use Rattle.exports_ending.proofs.exports_ending.Statement.{statement}
 use Rattle.exports_ending.proofs.exports_ending.Tie as tie
 
 pub exports-ending-spec : {M : Type 1} → statement M
-unfolding given endingTo pathNotExported failureNumber failureTexts refusalNumber
+unfolding given resolvedTo pathNotExported failureNumber failureTexts refusalNumber
 exports-ending-spec =
     tie.close
     (tie.spec

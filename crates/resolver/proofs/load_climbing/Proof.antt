@@ -1,7 +1,6 @@
 -- `resolver::load_climbing` meets its contract, by the laws of `directory::Rooms` and `Lookups`.
 use mathlib.Core.Path.{_∙_}
 use borrow.Author.Tests.{not-true, not-false}
-use Rattle.package_exports.specs.Routines.{longest}
 use Rattle.directory.proofs.Rooms.{was-done, fits}
 use Rattle.resolver.proofs.Lookups.{stays, stays-inside, climbs-out, normalized-here, climbing-subpath}
 use borrow.Author.Needs.{needs}
@@ -45,7 +44,7 @@ returns-3 c =
     let q = at-start .pre in
     climbs-out _ _ (m .result) (k .result) (m .ensures) (not-false (m .result) (at-if1-left .if1 .left)) (rw p at (k .ensures))
     (not-false (k .result) (at-if2-left .if2 .left))
-    (was-done (fits 22 longest _ _ (q .0)
+    (was-done (fits 22 512 _ _ (q .0)
     (climbing-subpath (at-start .args .spec .now) (q .1) (k .result) (rw p at (k .ensures))
     (not-false (k .result) (at-if2-left .if2 .left)))) (rw p at (at-load-node-modules .load-node-modules .ensures)))
 
