@@ -16,7 +16,7 @@ use package_target::Kind;
 use targets::{Answer, Context, Form, Match, Order, Outcome, Rank};
 
 // What the keys of an object begin with.
-#[derive(Drop)]
+#[derive(Clone, Copy)]
 struct KeyMarks {
     // some key begins with "." or "#"
     dot: bool,
@@ -97,7 +97,7 @@ fn keys_of(m: &[u8], at: usize, work: &mut [u8]) -> KeyMarks
 }
 
 // The pattern key that comes first of those that match: its place, and the part of the match key that is left over.
-#[derive(Drop)]
+#[derive(Clone, Copy)]
 struct Best {
     found: bool,
     key: usize,
@@ -175,7 +175,7 @@ fn value_of(m: &[u8], at: usize, key: usize, work: &mut [u8]) -> Cursor
 }
 
 // The key that a failure names.
-#[derive(Drop)]
+#[derive(Clone, Copy)]
 pub enum Key {
     Dot,
     Subpath,
@@ -204,7 +204,7 @@ fn form_of(starred: bool) -> Form
 
 // The member of a map that applies to a match key, the literal key's being Key::Subpath: the place of its last value,
 // and the part of the match key that a pattern key leaves over, with the form in which a target takes it.
-#[derive(Drop)]
+#[derive(Clone, Copy)]
 pub struct Member {
     pub key: Key,
     pub value: usize,
@@ -212,7 +212,7 @@ pub struct Member {
     pub form: Form,
 }
 
-#[derive(Drop)]
+#[derive(Clone, Copy)]
 pub enum Selected {
     Nothing,
     Of(Member),
@@ -282,7 +282,7 @@ pub fn select(m: &[u8], at: usize, match_key: &[u8], work: &mut [u8]) -> Selecte
 }
 
 // How an exports field was resolved: an answer, with the key that led to the target and the part of the subpath that matched.
-#[derive(Drop)]
+#[derive(Clone, Copy)]
 pub struct Resolved {
     pub answer: Answer,
     pub key: Key,

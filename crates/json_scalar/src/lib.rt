@@ -213,7 +213,7 @@ pub fn starts_value(b: u8) -> bool
 }
 
 // What stands behind an element or a member: the next one, the end of them, or neither.
-#[derive(Drop)]
+#[derive(Clone, Copy)]
 pub enum Then {
     More(usize),
     Close(usize),

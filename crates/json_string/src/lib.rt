@@ -5,7 +5,7 @@ ghost use Rattle.definition.specs.Json.{plain_byte, escape_byte, unit as unit_of
 ghost use Rattle.json_string.specs.Automaton.{place_of, Steps, Good, High, Below, lead_byte, digit_of, follows as followsOf, fits as fits_of, advanced};
 
 // Where the reader of a string stands: the definition's place.
-#[derive(Drop)]
+#[derive(Clone, Copy)]
 pub enum Place {
     Between,
     Sequence(u8, u8, u8),
@@ -17,14 +17,14 @@ pub enum Place {
 }
 
 // The decoded bytes that a byte gives: none, itself or another one, or those of a code point.
-#[derive(Drop)]
+#[derive(Clone, Copy)]
 pub enum Out {
     None,
     Byte(u8),
     Point(u32),
 }
 
-#[derive(Drop)]
+#[derive(Clone, Copy)]
 pub enum Step {
     Bad,
     Close,

@@ -79,7 +79,7 @@ fn reach(at: usize, k: usize, len: usize) -> usize
 }
 
 // Where an entry's path ends, and its contents.
-#[derive(Drop)]
+#[derive(Clone, Copy)]
 pub struct Place {
     pub end: usize,
     pub next: usize,
@@ -87,7 +87,7 @@ pub struct Place {
 }
 
 // What a search finds: a file's contents are l[start..end].
-#[derive(Drop)]
+#[derive(Clone, Copy)]
 pub enum Found {
     Absent,
     Directory,
@@ -155,7 +155,7 @@ fn matches(l: &[u8], at: usize, end: usize, path: &[u8]) -> bool
 }
 
 // How a path compares with the one before it: it is larger, and parts from it here; or it is not larger.
-#[derive(Drop)]
+#[derive(Clone, Copy)]
 pub enum Parting {
     Up(usize),
     Down,
@@ -223,7 +223,7 @@ fn search_clamped(l: &[u8], n: usize, path: &[u8]) -> Found
 }
 
 // Where an entry begins, by lengths that are added up unclamped.
-#[derive(Drop)]
+#[derive(Clone, Copy)]
 struct Spot {
     index: usize,
     at: usize,
@@ -267,7 +267,7 @@ fn least(a: usize, b: usize) -> usize
 }
 
 // What the search for an equal path says; unknown where the lengths run past the end.
-#[derive(Drop)]
+#[derive(Clone, Copy)]
 enum Sought {
     At(Spot),
     Nowhere,
@@ -322,7 +322,7 @@ fn eight(s: &[u8], k: usize) -> usize
 // The first 32 bytes of the path that is sought, eight in a number, read once for all entries: those at 0, 8, 16 and 24, or in a shorter
 // path the last eight instead. Such windows overlap, which leaves the order as it is. Of a path of less than eight bytes they are 0, and
 // nothing is below that.
-#[derive(Drop)]
+#[derive(Clone, Copy)]
 struct Words {
     start: usize,
     next: usize,
@@ -470,7 +470,7 @@ fn found_entry(l: &[u8], n: usize, i: usize, at: usize) -> Found
 }
 
 // What a search over unclamped lengths says.
-#[derive(Drop)]
+#[derive(Clone, Copy)]
 enum Attempt {
     Sure(Found),
     Unsure,

@@ -26,7 +26,7 @@ fn locate(l: &[u8], n: usize, i: usize, at: usize) -> Place
 }
 
 // The rules that each entry keeps by itself: 30's of length and contents, 30's of depth, and 32.
-#[derive(Drop)]
+#[derive(Clone, Copy)]
 pub enum Rule {
     Sizes,
     Depth,
@@ -170,7 +170,7 @@ fn ordered(l: &[u8]) -> bool
 }
 
 // What the check says: the first of 30, 31 and 32 that is broken anywhere.
-#[derive(Drop)]
+#[derive(Clone, Copy)]
 pub enum Checked {
     Accepted,
     Refused(u8),

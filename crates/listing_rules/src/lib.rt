@@ -121,7 +121,7 @@ fn is_plain(b: u8) -> bool
 }
 
 // Where the last "/" of a path stands, or the path's end, and whether the bytes behind it are plain.
-#[derive(Drop)]
+#[derive(Clone, Copy)]
 struct Ending {
     slash: usize,
     plain: bool,
@@ -153,7 +153,7 @@ fn ending_of(q: &[u8]) -> Ending
 }
 
 // Where the last "/" of a path stands, or the path's end, and whether a name that may stand in a path follows it.
-#[derive(Drop)]
+#[derive(Clone, Copy)]
 pub struct Last {
     pub slash: usize,
     pub named: bool,

@@ -21,7 +21,7 @@ use targets::{Answer, Context, Form, Outcome};
 const CONDITIONS: usize = 256;
 
 // The kinds of values.
-#[derive(Drop)]
+#[derive(Clone, Copy)]
 pub enum Kind {
     Scalar,
     String,

@@ -25,7 +25,7 @@ pub fn between(s: &[u8], from: usize, to: usize) -> &[u8]
 }
 
 // Where the fragment begins, and whether a "#" before it is escaped.
-#[derive(Drop)]
+#[derive(Clone, Copy)]
 struct Cut {
     fragment: usize,
     escaped: bool,
@@ -73,7 +73,7 @@ pub fn unescaped(s: &[u8]) -> PathBuf
 
 // A parsed specifier: where its query and its fragment begin. The path is what stands before the query, the query runs to the fragment, the fragment
 // to the end.
-#[derive(Drop)]
+#[derive(Clone, Copy)]
 pub struct Specifier {
     pub query: usize,
     pub fragment: usize,

@@ -12,7 +12,7 @@ ghost use Rattle.targets.specs.Answers.{answer_of, resolved, path_target, Asked}
 use path::PathBuf;
 use specifier::Specifier;
 
-#[derive(Drop)]
+#[derive(Clone, Copy)]
 pub enum Order {
     Less,
     Equal,
@@ -20,7 +20,7 @@ pub enum Order {
 }
 
 // What the order of two keys depends on: the bytes up to the first star (all where there is none), and their number.
-#[derive(Drop)]
+#[derive(Clone, Copy)]
 pub struct Rank {
     pub base: usize,
     pub starred: bool,
@@ -79,7 +79,7 @@ pub fn pattern_key_compare(a: &[u8], b: &[u8]) -> Order
 }
 
 // The part of the match key that a pattern key, or a folder key, leaves over.
-#[derive(Drop)]
+#[derive(Clone, Copy)]
 pub enum Match {
     Part { start: usize, len: usize },
     Nothing,
@@ -150,7 +150,7 @@ pub fn pattern_match(match_key: &[u8], key: &[u8]) -> Match
 }
 
 // A part of a string of the manifest: the string's place, and where in its decoded text the part begins.
-#[derive(Drop)]
+#[derive(Clone, Copy)]
 pub struct Part {
     pub at: usize,
     pub start: usize,
@@ -158,7 +158,7 @@ pub struct Part {
 }
 
 // context.rs: the query and the fragment so far, each a part of the target it came from. One of length 0 is none.
-#[derive(Drop)]
+#[derive(Clone, Copy)]
 pub struct Context {
     pub query: Part,
     pub fragment: Part,
@@ -225,7 +225,7 @@ fn substitute(t: &[u8], pattern: &[u8]) -> PathBuf
 }
 
 // How the resolution of a target ended. With the path that was found, or the target that a failure speaks of.
-#[derive(Drop)]
+#[derive(Clone, Copy)]
 pub enum Outcome {
     Found,
     Nothing,
@@ -240,7 +240,7 @@ pub enum Outcome {
 }
 
 // The path, or the target, is the first `len` bytes of a lent buffer.
-#[derive(Drop)]
+#[derive(Clone, Copy)]
 pub struct Answer {
     pub context: Context,
     pub len: usize,
@@ -248,7 +248,7 @@ pub struct Answer {
 }
 
 // The key that leads to a target: without a pattern match, with a star, or a folder.
-#[derive(Drop)]
+#[derive(Clone, Copy)]
 pub enum Form {
     Plain,
     Starred,

@@ -4,7 +4,7 @@ ghost use Rattle.definition.specs.Text.{due, due_after, is_utf8_from, is_utf8};
 ghost use Rattle.utf8.specs.Meaning.{meant};
 
 // What a byte that begins a character leaves due.
-#[derive(Drop)]
+#[derive(Clone, Copy)]
 enum Owed {
     // This many bytes, and the bounds of the next of them.
     More(u8, u8, u8),

@@ -3,8 +3,8 @@ use Prim.Native.Nat.{◌-◌}
 use Rattle.json_string.proofs.Rules.{here, past}
 use Rattle.definition.specs.Json.{elements}
 use borrow.Author.Rules.{rules}
-use Rattle.json.proofs.extra_element.Statement.{statement}
-use Rattle.json.proofs.extra_element.Tie as tie
+use Rattle.json_value.proofs.extra_element.Statement.{statement}
+use Rattle.json_value.proofs.extra_element.Tie as tie
 
 pub extra-element-spec : {M : Type 1} → statement M
 unfolding elements

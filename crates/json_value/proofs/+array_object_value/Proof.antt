@@ -2,30 +2,30 @@ use mathlib.Core.Path.{◌≡◌, refl, sym, ◌∙◌}
 use Prim.Native.Nat.{◌-◌, ◌+◌, ◌*◌}
 use lib.ListN.{drop}
 use Rattle.definition.specs.Json.{skip_space, value as value_of}
-use Rattle.json.proofs.Values.{Elems, elems_over, elems_fault, elems_neither, elems_close, elems_more, Membs, membs_over, membs_key, membs_fault, membs_neither, membs_close, membs_more, array_cut, array_none, array_some, object_cut, object_none, object_some, value_end_lem, value_text, value_scalar, array_deep, object_deep, value_array, value_object}
+use Rattle.json_value.proofs.Values.{Elems, elems_over, elems_fault, elems_neither, elems_close, elems_more, Membs, membs_over, membs_key, membs_fault, membs_neither, membs_close, membs_more, array_cut, array_none, array_some, object_cut, object_none, object_some, value_end_lem, value_text, value_scalar, array_deep, object_deep, value_array, value_object}
 use borrow.Author.Rules.{rules}
 use native.Mathlib.Omega.{arith}
 use Prim.Native.Nat.{ℕ, ◌<◌}
 use borrow.Fn.Kinds.{In}
 use borrow.Fn.PlainCycle.{Measures, is, falls, and}
-use Rattle.json.proofs.array.Reads as array
-use Rattle.json.proofs.array.Kinds as array-kinds
-use Rattle.json.proofs.+array_object_value.Lts-array as array-lts
-use Rattle.json.proofs.object.Reads as object
-use Rattle.json.proofs.object.Kinds as object-kinds
-use Rattle.json.proofs.+array_object_value.Lts-object as object-lts
-use Rattle.json.proofs.value.Reads as value
-use Rattle.json.proofs.value.Kinds as value-kinds
-use Rattle.json.proofs.+array_object_value.Lts-value as value-lts
+use Rattle.json_value.proofs.array.Reads as array
+use Rattle.json_value.proofs.array.Kinds as array-kinds
+use Rattle.json_value.proofs.+array_object_value.Lts-array as array-lts
+use Rattle.json_value.proofs.object.Reads as object
+use Rattle.json_value.proofs.object.Kinds as object-kinds
+use Rattle.json_value.proofs.+array_object_value.Lts-object as object-lts
+use Rattle.json_value.proofs.value.Reads as value
+use Rattle.json_value.proofs.value.Kinds as value-kinds
+use Rattle.json_value.proofs.+array_object_value.Lts-value as value-lts
 use Rattle.json_scalar.proofs.after.Reads as after-reads
-use Rattle.json.proofs.extra_element.Reads as extra-element-reads
-use Rattle.json.proofs.extra_member.Reads as extra-member-reads
-use Rattle.json.proofs.key.Reads as key_reads
+use Rattle.json_value.proofs.extra_element.Reads as extra-element-reads
+use Rattle.json_value.proofs.extra_member.Reads as extra-member-reads
+use Rattle.json_value.proofs.key.Reads as key_reads
 use Rattle.json_scalar.proofs.scalar.Reads as scalar-reads
 use Rattle.json_scalar.proofs.skip_space.Reads as skip-space-reads
 use Rattle.json_text.proofs.quoted.Reads as quoted-reads
-use Rattle.json.proofs.+array_object_value.{statement}
-use Rattle.json.proofs.+array_object_value.Tie.{close}
+use Rattle.json_value.proofs.+array_object_value.{statement}
+use Rattle.json_value.proofs.+array_object_value.Tie.{close}
 
 abbrev μ-array : Measures 1 array-kinds.ps ℕ
 μ-array κs a = a.1.1.0 * 3 + 1
