@@ -1,0 +1,45 @@
+-- `directory::load_as_directory` meets its contract, by the laws of `Manifests` and `Rooms`.
+use mathlib.Core.Path.{◌∙◌}
+use Rattle.definition.specs.Settings.{settings_of}
+use Rattle.definition.specs.Walk.{LOAD_AS_DIRECTORY}
+use Rattle.directory.proofs.Manifests.{own_ended, directory_bare, directory_manifest}
+use Rattle.directory.proofs.Rooms.{is_done, is_refused_lem, enough, too_little}
+use borrow.Author.Rules.{rules}
+use Rattle.directory.proofs.load_as_directory.Goals as goal
+
+pub returns-then-work-lt1024 : goal.returns-then-work-lt1024
+returns-then-work-lt1024 c = rw c.refused.ensures (is_refused_lem _ 25 (too_little _ c.if-work-lt1024.true))
+
+pub returns-in_default : goal.returns-in_default
+returns-in_default c =
+    unfold LOAD_AS_DIRECTORY in
+    let o = c.own_val in
+    let g = settings_of c.args.s.now in
+    is_done _ (enough _ c.if-work-lt1024.false)
+    (own_ended g c.args.l.now o.result.way o.result.package _ c.in_default.keys2 (o.ensures.0 g))
+
+pub returns-in_default-package : goal.returns-in_default-package
+returns-in_default-package c =
+    let g = settings_of c.args.s.now in
+    is_done _ (enough _ c.if-work-lt1024.false)
+    (directory_bare g _ (rw (c.in-Next.is, c.in_default-package.is) at
+    (c.own-found.ensures.0 g)) c.load_index.ensures)
+
+pub shape_of-res : goal.shape_of-res
+shape_of-res c = c.load_by_manifest.kept.1.1.1.1.1.1.1.0 ∙ c.own-found.kept.1.1.0
+
+pub shape_of-nums : goal.shape_of-nums
+shape_of-nums c = c.load_by_manifest.kept.1.1.1.1.1.1.1.1.0 ∙ c.own-found.kept.1.1.1.0
+
+pub shape_of-text : goal.shape_of-text
+shape_of-text c = c.load_by_manifest.kept.1.1.1.1.1.1.1.1.1.0 ∙ c.own-found.kept.1.1.1.1.0
+
+pub returns : goal.returns
+returns c =
+    let o = c.own_val in
+    let p = c.package-1.given in
+    let g = settings_of c.args.s.now in
+    let m = c.contents-manifest.ensures in
+    is_done _ (enough _ c.if-work-lt1024.false)
+    (directory_manifest g _ _ (rw (c.in-Next.is, p.1) at (o.ensures.0 g))
+    (c.load_by_manifest.ensures _ (rw m (rw p.1 at o.ensures.1.0))))

@@ -1,0 +1,16 @@
+use borrow.Author.Rules.{rules}
+use Rattle.directory.proofs.text_field.Reads as reads
+use Rattle.directory.proofs.text_field.Lts as lts
+use Rattle.package_json.proofs.get.Reads as get-reads
+use Rattle.json_text.proofs.read_text.Reads as read-text-reads
+use Rattle.directory.proofs.text_field.Goals as goal
+
+pub returns-in-At : goal.returns-in-At
+returns-in-At c =
+    let g = rw c.in-At.is at c.get-at.ensures in
+    rw (← g) c.read_text.ensures
+
+pub returns-in-Nothing : goal.returns-in-Nothing
+returns-in-Nothing c =
+    let g = rw c.in-Nothing.is at c.get-at.ensures in
+    rw (← g)

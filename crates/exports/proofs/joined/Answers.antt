@@ -1,0 +1,6 @@
+use borrow.Author.Rules.{rules}
+use mathlib.Core.Path.{◌≡◌}
+use Rattle.exports.proofs.joined.Goals as goal
+
+pub returns : goal.returns
+returns c = rw (c.either.ensures, c.either-2.ensures, c.either-3.ensures)

@@ -1,0 +1,20 @@
+use mathlib.Core.Path.{◌≡◌, refl, sym, ◌∙◌}
+use Prim.Native.Nat.{◌-◌}
+use lib.ListN.{length, drop}
+use Rattle.definition.specs.Text.{skip_while}
+use Rattle.definition.specs.Json.{skip_space}
+use Rattle.json_string.proofs.Rules.{here, past}
+use borrow.Author.Rules.{rules}
+use Rattle.json_scalar.proofs.skip_space.Goals as goal
+
+pub loop-i-preserved : goal.loop-i-preserved
+unfolding skip_while
+loop-i-preserved c = c.loop-i.invariant ∙ rw (here _ _ c.loop-i-test.true) (rw (sym c.is_space-space.ensures ∙ c.if-space.true))
+
+pub returns-else-space : goal.returns-else-space
+unfolding skip_while
+returns-else-space c = c.loop-i.invariant ∙ rw (here _ _ c.loop-i-test.true) (rw (sym c.is_space-space.ensures ∙ c.if-space.false))
+
+pub returns : goal.returns
+unfolding skip_while
+returns c = c.loop-i.invariant ∙ rw (past _ _ c.loop-i-test.false)

@@ -1,0 +1,5 @@
+use borrow.Author.Rules.{rules}
+use Rattle.manifests.proofs.manifest_of.Goals as goal
+
+pub returns-in-File : goal.returns-in-File
+returns-in-File c = cc

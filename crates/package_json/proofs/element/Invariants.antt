@@ -1,0 +1,14 @@
+use mathlib.Core.Path.{◌≡◌, sym, ◌∙◌, ap}
+use Prim.Native.Nat.{◌-◌}
+use lib.ListN.{drop}
+use borrow.Author.Rules.{rules}
+use Rattle.definition.specs.JsonAt.{further, then_at, next_element, first_element, element_at}
+use Rattle.package_json.specs.Cursors.{placed}
+use Rattle.package_json.proofs.Walks.{further_none, further_on, further_done}
+use Rattle.package_json.proofs.element.Given as goal
+
+abbrev pub invariant-loop-left : goal.invariant-loop-left
+invariant-loop-left l = further next_element l.i (first_element (drop l.at l.m)) ≡ further next_element l.left (placed l.m l.c)
+
+abbrev pub decreases-loop-left : goal.decreases-loop-left
+decreases-loop-left l = l.left

@@ -1,0 +1,21 @@
+-- `join` is what `slash` gives with the part behind it.
+use borrow.Author.Rules.{rules}
+use mathlib.Core.Path.{sym, ◌∙◌}
+use Rattle.path.specs.Meaning.{path_at}
+use Rattle.path.proofs.Steps.{push_put}
+use Rattle.path.proofs.join.Goals as goal
+
+pub shape_of-b : goal.shape_of-b
+shape_of-b c =
+    c.put.ensures.0
+    ∙ sym c.requires
+
+pub returns : goal.returns
+returns c =
+    c.put.ensures.1
+    ∙ rw c.slash-m.ensures.1
+    (push_put
+    (path_at
+    c.args.b.now
+    c.args.n)
+    _)

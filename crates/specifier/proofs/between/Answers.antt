@@ -1,0 +1,7 @@
+use mathlib.Core.Path.{◌∙◌, ap}
+use lib.ListN.{drop}
+use borrow.Author.Rules.{rules}
+use Rattle.specifier.proofs.between.Goals as goal
+
+pub returns : goal.returns
+returns c = c.tail.ensures ∙ ap (drop c.args.from) c.first.ensures
