@@ -7,6 +7,10 @@ use Rattle.json_string.proofs.Rules.{here, past}
 use borrow.Author.Rules.{rules}
 use Rattle.json_scalar.proofs.skip_space.Goals as goal
 
+pub loop-i-init : goal.loop-i-init
+unfolding skip_while
+loop-i-init c = refl
+
 pub loop-i-preserved : goal.loop-i-preserved
 unfolding skip_while
 loop-i-preserved c = c.loop-i.invariant ∙ rw (here _ _ c.loop-i-test.true) (rw (sym c.is_space-space.ensures ∙ c.if-space.true))

@@ -7,6 +7,10 @@ use borrow.Author.Rules.{rules}
 use Rattle.json_string.proofs.Rules.{rules}
 use Rattle.json_scalar.proofs.word.Goals as goal
 
+pub loop-k-init : goal.loop-k-init
+unfolding word
+loop-k-init c = refl
+
 pub returns-then-i-m : goal.returns-then-i-m
 unfolding word
 returns-then-i-m c = record { is = c.loop-k.invariant ∙ search rules depth 9 fits 3000 }

@@ -9,6 +9,10 @@ use Rattle.laws.specs.ListingSteps.{path_length_at, contents_mark_at, lengths_at
 use Rattle.listing.proofs.Numbers.{number_part}
 use Rattle.listing_rules.proofs.lengths.Goals as goal
 
+pub loop-i-init : goal.loop-i-init
+unfolding path_length_at contents_mark_at
+loop-i-init c = search rules
+
 pub slice_bounds-read_number-end : goal.slice_bounds-read_number-end
 unfolding path_length_at contents_mark_at
 slice_bounds-read_number-end c = omega (arith, c.requires.2, c.loop-i-test.true)

@@ -13,6 +13,10 @@ pub returns-then-largest-lt128 : goal.returns-then-largest-lt128
 unfolding is_utf8
 returns-then-largest-lt128 c = sym (utf8_ascii _ (λ k h. omega (arith, c.largest.ensures k h)))
 
+pub loop-i-init : goal.loop-i-init
+unfolding is_utf8
+loop-i-init c = refl
+
 pub returns-in-Bad : goal.returns-in-Bad
 unfolding is_utf8
 returns-in-Bad c = sym (utf8_step _ _ _ _ _ c.loop-i-test.true c.next-o.ensures (ap meant c.in-Bad.is) ∙ utf8_bad _) ∙ c.loop-i.invariant
