@@ -1,7 +1,6 @@
 -- `answer::ending_of` meets its contract.
 use mathlib.Core.Path.{refl}
 use Rattle.definition.specs.Called.{padded}
-use borrow.Author.Rules.{rules}
 use Rattle.answer.proofs.ending_of.Goals as goal
 
 pub returns-in-Found : goal.returns-in-Found

@@ -1,5 +1,4 @@
 -- `answer::list_fits` meets its contract.
-use borrow.Author.Rules.{rules}
 use borrow.Author.Tests.{lt-leb, le-leb, lt-ltb, le-ltb}
 use Rattle.answer.proofs.list_fits.Goals as goal
 

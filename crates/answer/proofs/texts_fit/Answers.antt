@@ -1,6 +1,5 @@
 -- `answer::texts_fit` meets its contract, by the laws of `Rooms`.
 use native.Mathlib.Omega.{arith}
-use borrow.Author.Rules.{rules}
 use borrow.Author.Tests.{lt-leb}
 use Rattle.answer.specs.Room.{text_length}
 use Rattle.answer.proofs.Rooms.{leb_less}

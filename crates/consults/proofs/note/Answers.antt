@@ -1,6 +1,5 @@
 -- `consults::note` meets its contract.
 use Rattle.consults.specs.Tape.{put}
-use borrow.Author.Rules.{rules}
 use Rattle.consults.proofs.note.Goals as goal
 
 pub returns : goal.returns

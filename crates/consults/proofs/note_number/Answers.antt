@@ -1,10 +1,7 @@
 use mathlib.Core.Path.{refl, sym}
 use native.Mathlib.Omega.{arith}
-use borrow.Author.Rules.{rules}
 use Rattle.consults.specs.Tape.{packed}
 use lib.Seq.{set_out}
-use Rattle.consults.proofs.note_number.Reads as reads
-use Rattle.consults.proofs.note_number.Lts as lts
 use Rattle.consults.proofs.note_number.Goals as goal
 
 pub returns-then-count-nums : goal.returns-then-count-nums

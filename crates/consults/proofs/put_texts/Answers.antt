@@ -1,12 +1,8 @@
-use mathlib.Core.Path.{◌∙◌, sym, ap}
+use mathlib.Core.Path.{◌∙◌}
 use mathlib.Core.List.{◌++◌, append_assoc}
 use native.Mathlib.Omega.{arith}
 use lib.ListN.{length, length-append}
 use Rattle.consults.proofs.Laws.{overwrite_next, overwrite_full}
-use borrow.Author.Rules.{rules}
-use Rattle.consults.proofs.put_texts.Reads as reads
-use Rattle.consults.proofs.put_texts.Lts as lts
-use Rattle.text.proofs.copy_at.Reads as copy-at-reads
 use Rattle.consults.proofs.put_texts.Goals as goal
 
 pub returns-then-n-res : goal.returns-then-n-res

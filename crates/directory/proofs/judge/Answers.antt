@@ -1,12 +1,5 @@
 use Rattle.definition.specs.Called.{seen_by}
 use Rattle.directory.proofs.Manifests.{root_told, fault_told, judged_root, judged_fault}
-use borrow.Author.Rules.{rules}
-use Rattle.directory.proofs.judge.Reads as reads
-use Rattle.directory.proofs.judge.Lts as lts
-use Rattle.listing.proofs.contents.Reads as contents-reads
-use Rattle.package_json.proofs.check.Reads as check-reads
-use Rattle.path.proofs.first.Reads as first_reads
-use Rattle.directory.proofs.fault_ending.Reads as fault-ending-reads
 use Rattle.directory.proofs.judge.Goals as goal
 
 pub fault_ending-requires : goal.fault_ending-requires
@@ -16,10 +9,10 @@ pub returns-in-Root : goal.returns-in-Root
 returns-in-Root c =
     let r = c.checked-1.given in
     let k = root_told _ r.0.0 (rw (c.contents.ensures, r.1) at c.check-checked.ensures) in
-    (λ G ns t. judged_root _ _ _ (k.seen G), k.stands)
+    record { done = λ G ns t. judged_root _ _ _ (k.seen G); held = k.stands }
 
 pub returns-in-Fault : goal.returns-in-Fault
 returns-in-Fault c =
     let a = c.args in
     let e = rw (c.contents.ensures, c.in-Fault.is) at c.check-checked.ensures in
-    (λ G ns t. judged_fault _ _ _ (fault_told G _ _ e) (rw c.first.ensures at (c.fault_ending.ensures (seen_by G a.l.now) ns t a.m)), tt)
+    record { done = λ G ns t. judged_fault _ _ _ (fault_told G _ _ e) (rw c.first.ensures at (c.fault_ending.ensures (seen_by G a.l.now) ns t a.m)); held = tt }

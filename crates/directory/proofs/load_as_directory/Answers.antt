@@ -4,7 +4,6 @@ use Rattle.definition.specs.Settings.{settings_of}
 use Rattle.definition.specs.Walk.{LOAD_AS_DIRECTORY}
 use Rattle.directory.proofs.Manifests.{own_ended, directory_bare, directory_manifest}
 use Rattle.directory.proofs.Rooms.{is_done, is_refused_lem, enough, too_little}
-use borrow.Author.Rules.{rules}
 use Rattle.directory.proofs.load_as_directory.Goals as goal
 
 pub returns-then-work-lt1024 : goal.returns-then-work-lt1024
@@ -23,7 +22,7 @@ returns-in_default-package c =
     let g = settings_of c.args.s.now in
     is_done _ (enough _ c.if-work-lt1024.false)
     (directory_bare g _ (rw (c.in-Next.is, c.in_default-package.is) at
-    (c.own-found.ensures.0 g)) c.load_index.ensures)
+    (c.own-found.ensures.done g)) c.load_index.ensures)
 
 pub shape_of-res : goal.shape_of-res
 shape_of-res c = c.load_by_manifest.kept.1.1.1.1.1.1.1.0 ∙ c.own-found.kept.1.1.0

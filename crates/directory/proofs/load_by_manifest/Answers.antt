@@ -2,11 +2,6 @@ use Rattle.definition.specs.Ask.{◌>>◌}
 use Rattle.definition.specs.Settings.{settings_of}
 use Rattle.directory.specs.Routines.{by_manifest}
 use Rattle.consults.proofs.Ways.{way_passed, way_onward}
-use borrow.Author.Rules.{rules}
-use Rattle.directory.proofs.load_by_manifest.Reads as reads
-use Rattle.directory.proofs.load_by_manifest.Lts as lts
-use Rattle.directory.proofs.load_main_fields.Reads as load-main-fields-reads
-use Rattle.files.proofs.load_index.Reads as load-index-reads
 use Rattle.directory.proofs.load_by_manifest.Goals as goal
 
 pub returns-in_default : goal.returns-in_default

@@ -1,11 +1,9 @@
 -- `directory::load_if_directory` meets its contract, by the laws of `questions::Questions` and `Rooms`.
-use borrow.Author.Tests.{not-true, not-false}
 use Rattle.definition.specs.Walk.{when}
 use Rattle.directory.specs.Routines.{if_directory}
 use Rattle.consults.specs.Tape.{done_ret}
 use Rattle.questions.proofs.Questions.{dir_passed, is_dir_lem, no_dir}
 use Rattle.directory.proofs.Rooms.{was_done, is_done, is_refused_lem, enough, too_little}
-use borrow.Author.Rules.{rules}
 use Rattle.directory.proofs.load_if_directory.Goals as goal
 
 pub returns-then-work-lt1024 : goal.returns-then-work-lt1024
@@ -25,7 +23,7 @@ returns-then-not-told c =
     let t = c.is_directory-told in
     rw c.next.ensures (is_done _ (enough _ c.if-work-lt1024.false)
     (no_dir _ t.result.way t.result.yes (t.ensures _ _) _ c.in-Next.is
-    (not-true _ c.if-not-told.true) done_ret))
+    c.if-not-told.true done_ret))
 
 pub returns : goal.returns
 unfolding if_directory when
@@ -33,4 +31,4 @@ returns c =
     let t = c.is_directory-told in
     let h = enough _ c.if-work-lt1024.false in
     is_done _ h (is_dir_lem _ t.result.way t.result.yes (t.ensures _ _) _ c.in-Next.is
-    (not-false _ c.if-not-told.false) (was_done h c.load_as_directory.ensures))
+    c.if-not-told.false (was_done h c.load_as_directory.ensures))

@@ -2,7 +2,6 @@
 use mathlib.Core.Path.{◌∙◌}
 use Rattle.directory.proofs.Manifests.{main_below, main_long, main_fits}
 use Rattle.consults.proofs.Ways.{way_passed, way_onward}
-use borrow.Author.Rules.{rules}
 use Rattle.directory.proofs.load_main.Goals as goal
 
 pub returns-then-n-gt2048 : goal.returns-then-n-gt2048

@@ -1,14 +1,6 @@
 use mathlib.Core.Path.{◌∙◌, sym, ap}
 use mathlib.Core.Option.{some}
 use Rattle.directory.proofs.Manifests.{field_text, text_there, perhaps_none, perhaps_some}
-use borrow.Author.Rules.{rules}
-use Rattle.directory.proofs.load_main_field.Reads as reads
-use Rattle.directory.proofs.load_main_field.Lts as lts
-use Rattle.consults.proofs.next.Reads as next-reads
-use Rattle.json_text.proofs.text_at.Reads as text-at-reads
-use Rattle.directory.proofs.load_main.Reads as load-main-reads
-use Rattle.directory.proofs.text_field.Reads as text-field-reads
-use Rattle.settings.proofs.text.Reads as text-reads
 use Rattle.directory.proofs.load_main_field.Goals as goal
 
 pub returns-in_default : goal.returns-in_default

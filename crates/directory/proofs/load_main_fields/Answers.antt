@@ -1,24 +1,14 @@
 -- The loop's invariant: whatever finishes the main fields from i on finishes all of them from where the loop began.
-use mathlib.Core.Path.{◌≡◌, refl, ◌∙◌}
+use mathlib.Core.Path.{refl, ◌∙◌}
 use mathlib.Core.List.{[]}
 use Prim.Native.Nat.{◌-◌, ◌<◌}
 use native.Mathlib.Omega.{arith}
-use lib.ListN.{length, drop}
-use Rattle.definition.specs.Json.{Json}
-use Rattle.package_json.specs.Values.{Stands}
-use Rattle.definition.specs.Settings.{texts_of, settings_of}
-use Rattle.definition.specs.Called.{seen_by}
-use Rattle.consults.specs.Loop.{Left, left_start, left_again, left_stop, left_end}
-use Rattle.consults.specs.Meaning.{tape_of, place}
+use lib.ListN.{length}
+use Rattle.definition.specs.Settings.{texts_of}
+use Rattle.consults.specs.Loop.{left_start, left_again, left_stop, left_end}
 use Rattle.directory.specs.Routines.{main_field}
 use Rattle.files.proofs.Files.{left_texts, none_left}
 use Rattle.consults.proofs.Ways.{ended, onward}
-use borrow.Author.Rules.{rules}
-use Rattle.directory.proofs.load_main_fields.Reads as reads
-use Rattle.directory.proofs.load_main_fields.Lts as lts
-use Rattle.consults.proofs.next.Reads as next-reads
-use Rattle.directory.proofs.load_main_field.Reads as load-main-field-reads
-use Rattle.settings.proofs.count.Reads as count-reads
 use Rattle.directory.proofs.load_main_fields.Goals as goal
 
 pub loop-i-init : goal.loop-i-init

@@ -1,23 +1,14 @@
-use mathlib.Core.Path.{◌≡◌, refl, ◌∙◌}
+use mathlib.Core.Path.{◌≡◌}
 use mathlib.Core.List.{[]}
-use Prim.Native.Nat.{◌-◌, ◌<◌}
-use native.Mathlib.Omega.{arith}
+use Prim.Native.Nat.{◌-◌}
 use lib.ListN.{length, drop}
 use Rattle.definition.specs.Json.{Json}
 use Rattle.package_json.specs.Values.{Stands}
 use Rattle.definition.specs.Settings.{texts_of, settings_of}
 use Rattle.definition.specs.Called.{seen_by}
-use Rattle.consults.specs.Loop.{Left, left_start, left_again, left_stop, left_end}
+use Rattle.consults.specs.Loop.{Left}
 use Rattle.consults.specs.Meaning.{tape_of, place}
 use Rattle.directory.specs.Routines.{main_field}
-use Rattle.files.proofs.Files.{left_texts, none_left}
-use Rattle.consults.proofs.Ways.{ended, onward}
-use borrow.Author.Rules.{rules}
-use Rattle.directory.proofs.load_main_fields.Reads as reads
-use Rattle.directory.proofs.load_main_fields.Lts as lts
-use Rattle.consults.proofs.next.Reads as next-reads
-use Rattle.directory.proofs.load_main_field.Reads as load-main-field-reads
-use Rattle.settings.proofs.count.Reads as count-reads
 use Rattle.directory.proofs.load_main_fields.Given as goal
 
 abbrev pub invariant-loop-i : goal.invariant-loop-i

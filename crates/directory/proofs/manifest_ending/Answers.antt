@@ -2,7 +2,6 @@
 use mathlib.Core.Path.{◌∙◌}
 use Rattle.manifests.proofs.Climbs.{manifest_built}
 use Rattle.directory.proofs.Manifests.{ending_long, ending_fits}
-use borrow.Author.Rules.{rules}
 use Rattle.directory.proofs.manifest_ending.Goals as goal
 
 pub returns-then-n-gt2048 : goal.returns-then-n-gt2048

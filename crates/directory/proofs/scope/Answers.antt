@@ -3,7 +3,6 @@ use mathlib.Core.List.{[]}
 use Rattle.definition.specs.Path.{dirs}
 use Rattle.definition.specs.Settings.{settings_of}
 use Rattle.directory.proofs.Manifests.{sought_fits, nearest_none, nearest_found, nearest_stop}
-use borrow.Author.Rules.{rules}
 use Rattle.directory.proofs.scope.Goals as goal
 
 pub judge-requires : goal.judge-requires
@@ -13,26 +12,26 @@ judge-requires c =
 
 pub returns-in-Nowhere : goal.returns-in-Nowhere
 returns-in-Nowhere c =
-    let a = c.args in (
-      λ G. nearest_none G _ (rw c.in-Nowhere.is at
-          (c.find_package_json-nearest.ensures G a.result.now)),
-      tt,
-    )
+    let a = c.args in record {
+      done = λ G. nearest_none G _ (rw c.in-Nowhere.is at
+          (c.find_package_json-nearest.ensures G a.result.now));
+      held = tt;
+    }
 
 pub returns-in-At : goal.returns-in-At
 returns-in-At c =
     let a = c.args in
-    let j = c.judge.ensures in (
-      λ G. nearest_found G _ _
-          (rw c.in-At.is at (c.find_package_json-nearest.ensures G a.result.now)) (j.0 G _ _),
-      j.1,
-    )
+    let j = c.judge.ensures in record {
+      done = λ G. nearest_found G _ _
+          (rw c.in-At.is at (c.find_package_json-nearest.ensures G a.result.now)) (j.0 G _ _);
+      held = j.1;
+    }
 
 pub returns-in-Refused : goal.returns-in-Refused
 returns-in-Refused c =
-    let a = c.args in (
-      λ G. rw c.refuse.ensures
+    let a = c.args in record {
+      done = λ G. rw c.refuse.ensures
           (nearest_stop G _ _ (rw c.in-Refused.is at
-          (c.find_package_json-nearest.ensures G a.result.now))),
-      tt,
-    )
+          (c.find_package_json-nearest.ensures G a.result.now)));
+      held = tt;
+    }

@@ -1,8 +1,3 @@
-use borrow.Author.Rules.{rules}
-use Rattle.directory.proofs.text_field.Reads as reads
-use Rattle.directory.proofs.text_field.Lts as lts
-use Rattle.package_json.proofs.get.Reads as get-reads
-use Rattle.json_text.proofs.read_text.Reads as read-text-reads
 use Rattle.directory.proofs.text_field.Goals as goal
 
 pub returns-in-At : goal.returns-in-At

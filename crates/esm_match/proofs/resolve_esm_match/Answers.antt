@@ -1,7 +1,6 @@
 use mathlib.Core.Path.{◌∙◌}
 use Rattle.directory.proofs.Rooms.{was_done, enough}
 use Rattle.esm_match.proofs.Matches.{match_file, match_directory, match_none}
-use borrow.Author.Rules.{rules}
 use Rattle.esm_match.proofs.resolve_esm_match.Goals as goal
 
 pub returns-in_default : goal.returns-in_default

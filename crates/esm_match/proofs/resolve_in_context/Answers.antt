@@ -1,5 +1,4 @@
 use Rattle.directory.proofs.Rooms.{is_done, is_refused_lem, enough, too_little}
-use borrow.Author.Rules.{rules}
 use Rattle.esm_match.proofs.resolve_in_context.Goals as goal
 
 pub returns-then-work-lt1024 : goal.returns-then-work-lt1024

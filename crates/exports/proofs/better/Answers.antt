@@ -1,4 +1,3 @@
-use borrow.Author.Rules.{rules}
 use mathlib.Core.Path.{refl, sym, ◌∙◌, ap}
 use Rattle.definition.specs.Exports.{pattern_match, best_key}
 use Rattle.targets.specs.Keys.{rank_of, order_of, match_of}

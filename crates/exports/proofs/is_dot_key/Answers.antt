@@ -1,5 +1,4 @@
-use borrow.Author.Rules.{rules}
-use mathlib.Core.Path.{◌≡◌, sym, ◌∙◌}
+use mathlib.Core.Path.{sym, ◌∙◌}
 use Rattle.definition.specs.Exports.{is_dot_key}
 use Rattle.exports.proofs.is_dot_key.Goals as goal
 

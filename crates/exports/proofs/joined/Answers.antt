@@ -1,5 +1,3 @@
-use borrow.Author.Rules.{rules}
-use mathlib.Core.Path.{◌≡◌}
 use Rattle.exports.proofs.joined.Goals as goal
 
 pub returns : goal.returns

@@ -1,4 +1,3 @@
-use borrow.Author.Rules.{rules}
 use mathlib.Core.Path.{◌∙◌, ap}
 use Rattle.definition.specs.Exports.{is_dot_key, is_subpath_key}
 use Rattle.package_target.proofs.Places.{name_stands, text_target}

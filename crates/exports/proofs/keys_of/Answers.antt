@@ -1,10 +1,6 @@
 use native.Mathlib.Omega.{arith}
-use borrow.Author.Rules.{rules}
-use mathlib.Core.Path.{◌≡◌, refl, ◌∙◌}
-use lib.ListN.{length}
-use Rattle.definition.specs.Json.{Members, obj}
-use Rattle.package_target.specs.Places.{Stands}
-use Rattle.exports.proofs.Objects.{Keyed, keyed_start, keyed_done, keyed_over, keyed_on}
+use mathlib.Core.Path.{refl, ◌∙◌}
+use Rattle.exports.proofs.Objects.{keyed_start, keyed_done, keyed_over, keyed_on}
 use Rattle.exports.proofs.keys_of.Goals as goal
 
 pub loop-left-init : goal.loop-left-init

@@ -1,10 +1,8 @@
-use native.Mathlib.Omega.{arith}
-use borrow.Author.Rules.{rules}
-use mathlib.Core.Path.{◌≡◌, refl, ◌∙◌}
+use mathlib.Core.Path.{◌≡◌}
 use lib.ListN.{length}
 use Rattle.definition.specs.Json.{Members, obj}
 use Rattle.package_target.specs.Places.{Stands}
-use Rattle.exports.proofs.Objects.{Keyed, keyed_start, keyed_done, keyed_over, keyed_on}
+use Rattle.exports.proofs.Objects.{Keyed}
 use Rattle.exports.proofs.keys_of.Given as goal
 
 abbrev pub invariant-loop-left : goal.invariant-loop-left

@@ -1,4 +1,3 @@
-use borrow.Author.Rules.{rules}
 use mathlib.Core.Path.{sym, ◌∙◌}
 use Rattle.definition.specs.Exports.{entries}
 use Rattle.exports.proofs.Selections.{get_finds, literal_star, literal_get}

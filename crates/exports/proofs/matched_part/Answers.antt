@@ -1,9 +1,5 @@
 use mathlib.Core.Path.{sym, ◌∙◌, ap}
 use Rattle.exports.specs.Chosen.{part_of}
-use borrow.Author.Rules.{rules}
-use Rattle.exports.proofs.matched_part.Reads as reads
-use Rattle.exports.proofs.matched_part.Lts as lts
-use Rattle.text.proofs.part.Reads as part-reads
 use Rattle.exports.proofs.matched_part.Goals as goal
 
 pub returns-in-Part : goal.returns-in-Part

@@ -7,13 +7,6 @@ use Rattle.targets.specs.Contexts.{context_of}
 use Rattle.exports.specs.Chosen.{request_for}
 use Rattle.exports.proofs.Selections.{none_selected, one_selected, asked_for}
 use Rattle.exports.proofs.Resolutions.{subpath_is, imports_none, imports_some, applied}
-use borrow.Author.Rules.{rules}
-use Rattle.exports.proofs.package_imports_exports_resolve.Reads as reads
-use Rattle.exports.proofs.package_imports_exports_resolve.Lts as lts
-use Rattle.exports.proofs.matched_part.Reads as matched-part-reads
-use Rattle.exports.proofs.select.Reads as select-reads
-use Rattle.exports.proofs.unresolved.Reads as unresolved-reads
-use Rattle.package_target.proofs.package_target_resolve.Reads as package-target-resolve-reads
 use Rattle.exports.proofs.package_imports_exports_resolve.Goals as goal
 
 pub returns-in_default : goal.returns-in_default
@@ -24,7 +17,7 @@ returns-in_default c =
     let mk = start.match-key.now in
     let url = start.url.now in
     let chosen = c.select-selected in
-    let absent = none_selected m mk chosen.result (select mk (entries ms)) (chosen.ensures.0 ms c.requires h)
+    let absent = none_selected m mk chosen.result (select mk (entries ms)) (chosen.ensures.selects ms c.requires h)
     c.in_default.is in
     subpath_is m url mk _ c.unresolved.result start.c Nothing c.unresolved.ensures
     ∙ imports_none url (texts_of start.settings.now 0) mk (entries ms) (context_of m start.c) absent
@@ -39,10 +32,10 @@ returns c =
     let conditions = texts_of start.settings.now 0 in
     let chosen = c.select-selected in
     let target = c.package_target_resolve-answer in
-    let one = one_selected m mk chosen.result (select mk (entries ms)) _ (chosen.ensures.0 ms c.requires h)
+    let one = one_selected m mk chosen.result (select mk (entries ms)) _ (chosen.ensures.selects ms c.requires h)
     c.in-Of.is in
     let asked = asked_for one.1.1 start.settings.now url _ c.matched_part.ensures in
     applied one.1.1 url conditions _ target.result
-    ∙ target.ensures.0 (request_for url conditions one.0) one.0.target
-    (omega (arith, chosen.ensures.1.1, c.requires)) asked one.1.1.there
+    ∙ target.ensures.result_after (request_for url conditions one.0) one.0.target
+    (omega (arith, chosen.ensures.value.1, c.requires)) asked one.1.1.there
     ∙ imports_some url conditions mk (entries ms) (context_of m start.c) one.0 one.1.0

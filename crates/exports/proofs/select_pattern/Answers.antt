@@ -1,13 +1,6 @@
 use mathlib.Core.Option.{none}
-use borrow.Author.Tests.{not-true, not-false}
 use Rattle.definition.specs.Exports.{entries, best}
 use Rattle.exports.proofs.Selections.{no_pattern, best_member, best_missed, best_selects}
-use borrow.Author.Rules.{rules}
-use Rattle.exports.proofs.select_pattern.Reads as reads
-use Rattle.exports.proofs.select_pattern.Lts as lts
-use Rattle.exports.proofs.best_key.Reads as best-key-reads
-use Rattle.exports.proofs.form_of.Reads as form-of-reads
-use Rattle.exports.proofs.value_of.Reads as value-of-reads
 use Rattle.exports.proofs.select_pattern.Goals as goal
 
 pub returns-then-not-found : goal.returns-then-not-found
@@ -15,7 +8,7 @@ returns-then-not-found c =
     λ ms h.
     let start = c.args in
     let chosen = c.best_key-best in
-    no_pattern start.m.now start.match-key.now chosen.result _ (chosen.ensures ms h) (not-true _ c.if-not-found.true)
+    no_pattern start.m.now start.match-key.now chosen.result _ (chosen.ensures ms h) c.if-not-found.true
 
 pub returns-in_default : goal.returns-in_default
 returns-in_default c =
@@ -25,7 +18,7 @@ returns-in_default c =
     let mk = start.match-key.now in
     let chosen = c.best_key-best in
     let value = c.value_of-found_value in
-    let found = not-false _ c.if-not-found.false in
+    let found = c.if-not-found.false in
     let b = best_member m mk chosen.result ms start.at value.result h (chosen.ensures ms h) found
     (λ k s q. value.ensures ms k s h q) in
     absurd (best_missed m mk chosen.result (best mk none (entries ms)) b c.in_default.is)
@@ -38,7 +31,7 @@ returns c =
     let mk = start.match-key.now in
     let chosen = c.best_key-best in
     let value = c.value_of-found_value in
-    let found = not-false _ c.if-not-found.false in
+    let found = c.if-not-found.false in
     let b = best_member m mk chosen.result ms start.at value.result h (chosen.ensures ms h) found
     (λ k s q. value.ensures ms k s h q) in
     best_selects m mk chosen.result (best mk none (entries ms)) b c.in-At.is c.form_of-form.result

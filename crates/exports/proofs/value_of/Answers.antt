@@ -4,12 +4,6 @@ use lib.ListN.{drop}
 use Rattle.definition.specs.JsonAt.{get_at}
 use Rattle.package_target.proofs.Places.{name_stands, text_target}
 use Rattle.exports.proofs.Selections.{get_finds}
-use borrow.Author.Rules.{rules}
-use Rattle.exports.proofs.value_of.Reads as reads
-use Rattle.exports.proofs.value_of.Lts as lts
-use Rattle.json_text.proofs.read_text.Reads as read-text-reads
-use Rattle.json_text.proofs.text_at.Reads as text-at-reads
-use Rattle.package_json.proofs.get.Reads as get-reads
 use Rattle.exports.proofs.value_of.Goals as goal
 
 pub returns : goal.returns

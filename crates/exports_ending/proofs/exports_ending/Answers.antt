@@ -6,7 +6,6 @@ use Rattle.consults.proofs.Steps.{done_refuse, ends_failed}
 use Rattle.directory.proofs.Manifests.{ending_named}
 use Rattle.directory.proofs.Rooms.{is_done, is_refused_lem, fits, no_room, too_long}
 use Rattle.exports_ending.proofs.Failures.{done_failed, within, beyond}
-use borrow.Author.Rules.{rules}
 use Rattle.exports_ending.proofs.exports_ending.Goals as goal
 
 pub returns-then-work-lt1024 : goal.returns-then-work-lt1024
@@ -27,11 +26,11 @@ returns-in-Found c L ns list k x = rw c.in-Found.is (is_done _ (fits 42 2048 _ _
 
 pub returns-in-Nothing : goal.returns-in-Nothing
 unfolding given resolved_to path_not_exported failure_number failure_texts refusal_number
-returns-in-Nothing c L ns list k x = rw c.in-Nothing.is (is_done _ (fits 42 2048 _ _ c.if-work-lt1024.false (within _ _ c.manifest_fits.ensures c.if-not-manifest_fits.false)) (done_failed (ends_failed (PackagePathNotExported _ _)) (record { ending = c.finish.ensures.0; texts = c.finish.ensures.1 }) ns list k))
+returns-in-Nothing c L ns list k x = rw c.in-Nothing.is (is_done _ (fits 42 2048 _ _ c.if-work-lt1024.false (within _ _ c.manifest_fits.ensures c.if-not-manifest_fits.false)) (done_failed (ends_failed (PackagePathNotExported _ _)) (record { ending = c.finish.ensures.ending; texts = c.finish.ensures.texts }) ns list k))
 
 pub returns-in-Empty : goal.returns-in-Empty
 unfolding given resolved_to path_not_exported failure_number failure_texts refusal_number
-returns-in-Empty c L ns list k x = rw c.in-Empty.is (is_done _ (fits 42 2048 _ _ c.if-work-lt1024.false (within _ _ c.manifest_fits.ensures c.if-not-manifest_fits.false)) (done_failed (ends_failed (Empty _)) (record { ending = c.finish-in-Empty.ensures.0; texts = c.finish-in-Empty.ensures.1 }) ns list k))
+returns-in-Empty c L ns list k x = rw c.in-Empty.is (is_done _ (fits 42 2048 _ _ c.if-work-lt1024.false (within _ _ c.manifest_fits.ensures c.if-not-manifest_fits.false)) (done_failed (ends_failed (Empty _)) (record { ending = c.finish-in-Empty.ensures.ending; texts = c.finish-in-Empty.ensures.texts }) ns list k))
 
 pub returns-in-InvalidTarget : goal.returns-in-InvalidTarget
 unfolding given resolved_to path_not_exported failure_number failure_texts refusal_number

@@ -4,7 +4,6 @@ use mathlib.Core.Path.{◌∙◌, ap}
 use Rattle.json_text.specs.Texts.{or_empty}
 use Rattle.directory.proofs.Manifests.{manifest_path}
 use Rattle.targets.proofs.Contexts.{text_read}
-use borrow.Author.Rules.{rules}
 use Rattle.exports_ending.proofs.invalid_target.Goals as goal
 
 pub returns-in-Dot : goal.returns-in-Dot

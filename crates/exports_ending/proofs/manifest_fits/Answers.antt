@@ -1,6 +1,5 @@
 use mathlib.Core.Path.{◌∙◌}
 use Rattle.exports_ending.proofs.Failures.{fits_slash, fits_short}
-use borrow.Author.Rules.{rules}
 use Rattle.exports_ending.proofs.manifest_fits.Goals as goal
 
 pub returns-then-dir-eq2036 : goal.returns-then-dir-eq2036

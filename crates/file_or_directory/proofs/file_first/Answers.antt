@@ -1,4 +1,3 @@
-use borrow.Author.Rules.{rules}
 use Rattle.file_or_directory.proofs.file_first.Goals as goal
 
 pub returns-then-equal : goal.returns-then-equal

@@ -1,7 +1,6 @@
 -- `file_or_directory::load_as_file_or_directory` meets its contract, by the laws of `directory::Rooms` and `Steps`.
 use Rattle.directory.proofs.Rooms.{is_done, is_refused_lem, enough, too_little}
 use Rattle.file_or_directory.proofs.Steps.{both_long, file_found, then_directory}
-use borrow.Author.Rules.{rules}
 use Rattle.file_or_directory.proofs.load_as_file_or_directory.Goals as goal
 
 pub returns-then-work-lt1024 : goal.returns-then-work-lt1024

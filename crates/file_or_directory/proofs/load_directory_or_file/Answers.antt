@@ -2,7 +2,6 @@
 use Rattle.definition.specs.Walk.{bare}
 use Rattle.directory.proofs.Rooms.{was_done, enough}
 use Rattle.file_or_directory.proofs.Steps.{not_told, a_directory, no_directory}
-use borrow.Author.Rules.{rules}
 use Rattle.file_or_directory.proofs.load_directory_or_file.Goals as goal
 
 pub returns-in_default : goal.returns-in_default

@@ -1,14 +1,12 @@
 use mathlib.Core.Path.{sym, ◌∙◌}
-use borrow.Author.Tests.{not-true, not-false}
 use Rattle.definition.specs.Walk.{bare}
 use Rattle.file_or_directory.proofs.Steps.{file_skipped, file_tried}
-use borrow.Author.Rules.{rules}
 use Rattle.file_or_directory.proofs.load_file_first.Goals as goal
 
 pub returns-then-not-file_first : goal.returns-then-not-file_first
 unfolding bare
-returns-then-not-file_first c = rw c.next.ensures (file_skipped _ _ _ _ (sym c.file_first.ensures ∙ not-true _ c.if-not-file_first.true))
+returns-then-not-file_first c = rw c.next.ensures (file_skipped _ _ _ _ (sym c.file_first.ensures ∙ c.if-not-file_first.true))
 
 pub returns : goal.returns
 unfolding bare
-returns c = file_tried _ _ _ _ (sym c.file_first.ensures ∙ not-false _ c.if-not-file_first.false) c.load_as_file.ensures
+returns c = file_tried _ _ _ _ (sym c.file_first.ensures ∙ c.if-not-file_first.false) c.load_as_file.ensures

@@ -1,23 +1,13 @@
 -- The loop's invariant: whatever finishes the extensions from i on finishes all of them from where the loop began.
-use mathlib.Core.Path.{◌≡◌, refl, sym, ◌∙◌, ap}
+use mathlib.Core.Path.{refl, ◌∙◌}
 use mathlib.Core.List.{[]}
-use Prim.Native.Nat.{◌-◌, ◌<◌, ◌≤◌}
+use Prim.Native.Nat.{◌-◌, ◌<◌}
 use native.Mathlib.Omega.{arith}
-use lib.ListN.{length, drop}
+use lib.ListN.{length}
 use Rattle.definition.specs.Settings.{texts_of, settings_of}
-use Rattle.definition.specs.Called.{seen_by}
-use Rattle.definition.specs.Walk.{try_extension}
-use Rattle.consults.specs.Loop.{Left, left_start, left_again, left_stop, left_end}
-use Rattle.consults.specs.Meaning.{tape_of, place}
+use Rattle.consults.specs.Loop.{left_start, left_again, left_stop, left_end}
 use Rattle.files.proofs.Files.{left_texts, none_left, file_ended, file_then}
 use Rattle.consults.proofs.Ways.{ended, onward}
-use borrow.Author.Rules.{rules}
-use Rattle.files.proofs.load_as_file.Reads as reads
-use Rattle.files.proofs.load_as_file.Lts as lts
-use Rattle.consults.proofs.next.Reads as next-reads
-use Rattle.files.proofs.try_extension.Reads as try-extension-reads
-use Rattle.questions.proofs.try_file.Reads as try-file-reads
-use Rattle.settings.proofs.count.Reads as count-reads
 use Rattle.files.proofs.load_as_file.Goals as goal
 
 pub returns-in_default : goal.returns-in_default

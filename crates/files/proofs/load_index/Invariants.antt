@@ -1,23 +1,12 @@
-use mathlib.Core.Path.{◌≡◌, refl, sym, ◌∙◌, ap}
+use mathlib.Core.Path.{◌≡◌}
 use mathlib.Core.List.{[]}
-use Prim.Native.Nat.{◌-◌, ◌<◌, ◌≤◌}
-use native.Mathlib.Omega.{arith}
+use Prim.Native.Nat.{◌-◌}
 use lib.ListN.{length, drop}
 use Rattle.definition.specs.Settings.{texts_of, settings_of}
 use Rattle.definition.specs.Called.{seen_by}
-use Rattle.definition.specs.Walk.{LOAD_INDEX}
-use Rattle.consults.specs.Loop.{Left, left_start, left_again, left_stop, left_end}
+use Rattle.consults.specs.Loop.{Left}
 use Rattle.consults.specs.Meaning.{tape_of, place}
 use Rattle.files.specs.Meaning.{load_main_file}
-use Rattle.files.proofs.Files.{left_texts, none_left}
-use Rattle.consults.proofs.Ways.{ended, onward}
-use borrow.Author.Rules.{rules}
-use Rattle.files.proofs.load_index.Reads as reads
-use Rattle.files.proofs.load_index.Lts as lts
-use Rattle.consults.proofs.next.Reads as next-reads
-use Rattle.files.proofs.load_main_file.Reads as load-main-file-reads
-use Rattle.settings.proofs.count.Reads as count-reads
-use Rattle.settings.proofs.text.Reads as text-reads
 use Rattle.files.proofs.load_index.Given as goal
 
 abbrev pub invariant-loop-i : goal.invariant-loop-i

@@ -1,6 +1,5 @@
 -- `files::try_extension` meets its contract, by the laws of `Files`.
 use Rattle.files.proofs.Files.{extension_tried}
-use borrow.Author.Rules.{rules}
 use Rattle.files.proofs.try_extension.Goals as goal
 
 pub returns : goal.returns

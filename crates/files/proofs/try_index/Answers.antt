@@ -1,6 +1,5 @@
 -- `files::try_index` meets its contract, by the laws of `Files`.
 use Rattle.files.proofs.Files.{index_tried}
-use borrow.Author.Rules.{rules}
 use Rattle.files.proofs.try_index.Goals as goal
 
 pub returns : goal.returns

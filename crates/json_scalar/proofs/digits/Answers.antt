@@ -2,7 +2,6 @@ use mathlib.Core.Path.{sym, ◌∙◌}
 use Rattle.definition.specs.Json.{digits}
 use Rattle.json_string.proofs.Rules.{here, past}
 use Rattle.json_text.proofs.Laws.{faulty, ended}
-use borrow.Author.Rules.{rules}
 use Rattle.json_scalar.proofs.digits.Goals as goal
 
 pub returns-then-digit : goal.returns-then-digit

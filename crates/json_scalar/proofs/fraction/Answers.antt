@@ -2,7 +2,6 @@ use borrow.Author.Tests.{ne_eqb}
 use Rattle.definition.specs.Json.{fraction, exponent}
 use Rattle.json_string.proofs.Rules.{here, past}
 use Rattle.json_text.proofs.Laws.{then_fault, then_end}
-use borrow.Author.Rules.{rules}
 use Rattle.json_scalar.proofs.fraction.Goals as goal
 
 pub returns-in-Fault : goal.returns-in-Fault

@@ -1,7 +1,6 @@
 use borrow.Author.Tests.{ne_eqb}
 use Rattle.json_scalar.specs.Scalars.{scalar_of}
 use Rattle.json_string.proofs.Rules.{here, past}
-use borrow.Author.Rules.{rules}
 use Rattle.json_scalar.proofs.scalar.Goals as goal
 
 pub returns-then-b-eq116 : goal.returns-then-b-eq116

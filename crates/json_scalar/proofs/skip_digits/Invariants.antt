@@ -1,10 +1,7 @@
-use mathlib.Core.Path.{◌≡◌, refl, sym, ◌∙◌}
+use mathlib.Core.Path.{◌≡◌}
 use Prim.Native.Nat.{◌-◌}
 use lib.ListN.{length, drop}
-use Rattle.definition.specs.Text.{skip_while}
 use Rattle.definition.specs.Json.{skip_digits}
-use Rattle.json_string.proofs.Rules.{here, past}
-use borrow.Author.Rules.{rules}
 use Rattle.json_scalar.proofs.skip_digits.Given as goal
 
 abbrev pub invariant-loop-i : goal.invariant-loop-i

@@ -1,10 +1,7 @@
-use mathlib.Core.Path.{◌≡◌, refl, sym, ◌∙◌}
+use mathlib.Core.Path.{refl, sym, ◌∙◌}
 use Prim.Native.Nat.{◌-◌}
-use lib.ListN.{length, drop}
 use Rattle.definition.specs.Text.{skip_while}
-use Rattle.definition.specs.Json.{skip_space}
 use Rattle.json_string.proofs.Rules.{here, past}
-use borrow.Author.Rules.{rules}
 use Rattle.json_scalar.proofs.skip_space.Goals as goal
 
 pub loop-i-init : goal.loop-i-init

@@ -1,8 +1,6 @@
-use mathlib.Core.Path.{◌≡◌, refl, ◌∙◌}
+use mathlib.Core.Path.{refl, ◌∙◌}
 use Prim.Native.Nat.{◌-◌}
-use lib.ListN.{length, drop}
 use Rattle.definition.specs.Json.{word}
-use Rattle.json_text.specs.Scanned.{left}
 use borrow.Author.Rules.{rules}
 use Rattle.json_string.proofs.Rules.{rules}
 use Rattle.json_scalar.proofs.word.Goals as goal

@@ -1,5 +1,4 @@
 use mathlib.Core.Path.{sym, ◌∙◌}
-use borrow.Author.Rules.{rules}
 use Rattle.json_string.specs.Automaton.{advanced}
 use Rattle.json_string.proofs.Steps.{fits_good}
 use Rattle.json_string.proofs.advance.Goals as goal

@@ -1,5 +1,4 @@
 use mathlib.Core.Path.{sym, ◌∙◌}
-use borrow.Author.Rules.{rules}
 use Rattle.json_string.proofs.fits.Goals as goal
 
 pub returns-in-Sequence : goal.returns-in-Sequence

@@ -3,7 +3,6 @@ use mathlib.Core.Path.{sym, ◌∙◌}
 use Rattle.json_string.proofs.Steps.{second_more, fewer, in_four, digit_yes, digit_no}
 use Prim.Native.Nat.{◌-◌}
 use native.Mathlib.Omega.{arith}
-use borrow.Author.Rules.{rules}
 use Rattle.json_string.proofs.second_hex_byte.Goals as goal
 
 pub returns-then-x-gt15 : goal.returns-then-x-gt15

@@ -1,5 +1,4 @@
 use Prim.Native.Nat.{◌-◌}
-use borrow.Author.Rules.{rules}
 use Rattle.json_text.proofs.Buffer.{decodes_end, decodes_fault}
 use Rattle.json_text.proofs.any_string.Goals as goal
 

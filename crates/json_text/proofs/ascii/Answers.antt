@@ -1,7 +1,4 @@
 use Prim.Native.Nat.{◌-◌}
-use lib.ListN.{length}
-use borrow.Author.Rules.{rules}
-use Rattle.json_text.specs.Decoded.{Begun}
 use Rattle.json_text.proofs.Strings.{begun, begun_on}
 use Rattle.json_text.proofs.ascii.Goals as goal
 

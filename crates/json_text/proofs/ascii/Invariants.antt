@@ -1,8 +1,6 @@
 use Prim.Native.Nat.{◌-◌}
 use lib.ListN.{length}
-use borrow.Author.Rules.{rules}
 use Rattle.json_text.specs.Decoded.{Begun}
-use Rattle.json_text.proofs.Strings.{begun, begun_on}
 use Rattle.json_text.proofs.ascii.Given as goal
 
 abbrev pub invariant-loop-i : goal.invariant-loop-i

@@ -1,8 +1,7 @@
-use mathlib.Core.Path.{◌≡◌, refl, ◌∙◌, ap}
+use mathlib.Core.Path.{refl, ◌∙◌, ap}
 use Prim.Native.Nat.{◌-◌}
-use lib.ListN.{length, drop}
-use Rattle.json_text.proofs.Buffer.{Going, begin, at_end_lem, on_bad, on_close, fair, on_over, on_gives}
-use borrow.Author.Rules.{rules}
+use lib.ListN.{drop}
+use Rattle.json_text.proofs.Buffer.{begin, at_end_lem, on_bad, on_close, fair, on_over, on_gives}
 use native.Mathlib.Omega.{arith}
 use Rattle.json_text.proofs.decode.Goals as goal
 

@@ -1,9 +1,7 @@
-use mathlib.Core.Path.{◌≡◌, refl, ◌∙◌, ap}
+use mathlib.Core.Path.{◌≡◌}
 use Prim.Native.Nat.{◌-◌}
-use lib.ListN.{length, drop}
-use Rattle.json_text.proofs.Buffer.{Going, begin, at_end_lem, on_bad, on_close, fair, on_over, on_gives}
-use borrow.Author.Rules.{rules}
-use native.Mathlib.Omega.{arith}
+use lib.ListN.{length}
+use Rattle.json_text.proofs.Buffer.{Going}
 use Rattle.json_text.proofs.decode.Given as goal
 
 abbrev pub invariant-loop-i : goal.invariant-loop-i

@@ -1,7 +1,6 @@
 use mathlib.Core.Path.{sym, ◌∙◌, ap}
 use Prim.Native.Nat.{◌-◌}
 use native.Mathlib.Omega.{arith}
-use borrow.Author.Rules.{rules}
 use Rattle.json_text.proofs.Buffer.{decodes_end, decodes_fits, decodes_fault}
 use Rattle.definition.specs.Text.{equal}
 use lib.Seq.{length-take-le}

@@ -1,5 +1,4 @@
 use Prim.Native.Nat.{◌-◌}
-use borrow.Author.Rules.{rules}
 use Rattle.json_text.proofs.Texts.{name_other, name_same, name_faulty}
 use Rattle.json_text.proofs.name_is.Goals as goal
 

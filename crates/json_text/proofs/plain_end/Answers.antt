@@ -1,9 +1,6 @@
-use mathlib.Core.Path.{◌≡◌, refl, sym, ◌∙◌}
-use Prim.Native.Nat.{◌-◌, ◌+◌}
-use lib.ListN.{length, drop}
-use Rattle.json_text.specs.Decoded.{plain}
+use mathlib.Core.Path.{sym, ◌∙◌}
+use Prim.Native.Nat.{◌-◌}
 use Rattle.json_text.proofs.Strings.{plain_on, plain_quote, plain_slash, plain_stop}
-use borrow.Author.Rules.{rules}
 use Rattle.json_text.proofs.plain_end.Goals as goal
 
 pub returns-then-b-eq34 : goal.returns-then-b-eq34

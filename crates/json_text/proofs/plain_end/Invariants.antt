@@ -1,9 +1,7 @@
-use mathlib.Core.Path.{◌≡◌, refl, sym, ◌∙◌}
+use mathlib.Core.Path.{◌≡◌}
 use Prim.Native.Nat.{◌-◌, ◌+◌}
 use lib.ListN.{length, drop}
 use Rattle.json_text.specs.Decoded.{plain}
-use Rattle.json_text.proofs.Strings.{plain_on, plain_quote, plain_slash, plain_stop}
-use borrow.Author.Rules.{rules}
 use Rattle.json_text.proofs.plain_end.Given as goal
 
 abbrev pub invariant-loop-i : goal.invariant-loop-i

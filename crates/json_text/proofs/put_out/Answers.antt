@@ -1,6 +1,5 @@
 use Prim.Native.Nat.{◌-◌}
 use Rattle.json_text.proofs.Buffer.{none_put}
-use borrow.Author.Rules.{rules}
 use Rattle.json_text.proofs.put_out.Goals as goal
 
 pub put_point-requires : goal.put_point-requires

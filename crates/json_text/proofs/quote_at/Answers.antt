@@ -1,5 +1,4 @@
 use Prim.Native.Nat.{◌-◌}
-use borrow.Author.Rules.{rules}
 use Rattle.json_string.proofs.Rules.{here, past}
 use Rattle.json_text.proofs.quote_at.Goals as goal
 

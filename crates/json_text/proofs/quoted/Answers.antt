@@ -1,6 +1,5 @@
 use mathlib.Core.Path.{refl}
 use Prim.Native.Nat.{◌-◌}
-use borrow.Author.Rules.{rules}
 use Rattle.json_text.proofs.Strings.{quoted_no, quoted_yes, quoted_out}
 use Rattle.json_text.proofs.quoted.Goals as goal
 

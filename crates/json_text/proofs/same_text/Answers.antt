@@ -1,10 +1,7 @@
-use mathlib.Core.Path.{◌≡◌, refl, ◌∙◌}
-use mathlib.Core.List.{List}
-use Prim.Native.Nat.{ℕ, ◌-◌}
-use lib.ListN.{length, drop}
-use borrow.Author.Rules.{rules}
-use Rattle.definition.specs.Json.{quoted, between, got}
-use Rattle.json_text.proofs.Strings.{Verbatim, free, quoted_beyond, quoted_string, ends_both, compared_out, verbatim_close, verbatim_short, verbatim_other, verbatim_on}
+use mathlib.Core.Path.{refl, ◌∙◌}
+use Prim.Native.Nat.{◌-◌}
+use Rattle.definition.specs.Json.{between}
+use Rattle.json_text.proofs.Strings.{free, quoted_beyond, quoted_string, ends_both, compared_out, verbatim_close, verbatim_short, verbatim_other, verbatim_on}
 use Rattle.json_text.proofs.same_text.Goals as goal
 
 pub returns-then-at-m : goal.returns-then-at-m

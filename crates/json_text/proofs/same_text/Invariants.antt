@@ -1,10 +1,9 @@
-use mathlib.Core.Path.{◌≡◌, refl, ◌∙◌}
+use mathlib.Core.Path.{◌≡◌}
 use mathlib.Core.List.{List}
 use Prim.Native.Nat.{ℕ, ◌-◌}
 use lib.ListN.{length, drop}
-use borrow.Author.Rules.{rules}
-use Rattle.definition.specs.Json.{quoted, between, got}
-use Rattle.json_text.proofs.Strings.{Verbatim, free, quoted_beyond, quoted_string, ends_both, compared_out, verbatim_close, verbatim_short, verbatim_other, verbatim_on}
+use Rattle.definition.specs.Json.{quoted, got}
+use Rattle.json_text.proofs.Strings.{Verbatim}
 use Rattle.json_text.proofs.same_text.Given as goal
 
 abbrev pub invariant-loop-i : goal.invariant-loop-i

@@ -1,5 +1,4 @@
 use Prim.Native.Nat.{◌-◌}
-use borrow.Author.Rules.{rules}
 use Rattle.json_text.proofs.Strings.{begun_quote}
 use Rattle.json_text.proofs.string.Goals as goal
 

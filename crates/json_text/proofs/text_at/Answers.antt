@@ -1,5 +1,4 @@
 use Prim.Native.Nat.{◌-◌}
-use borrow.Author.Rules.{rules}
 use Rattle.json_text.proofs.text_at.Goals as goal
 
 pub returns-in-Manifest : goal.returns-in-Manifest

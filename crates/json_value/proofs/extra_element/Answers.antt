@@ -2,7 +2,6 @@ use mathlib.Core.Path.{sym, ◌∙◌}
 use Prim.Native.Nat.{◌-◌}
 use Rattle.json_string.proofs.Rules.{here, past}
 use Rattle.definition.specs.Json.{elements}
-use borrow.Author.Rules.{rules}
 use Rattle.json_value.proofs.extra_element.Goals as goal
 
 pub returns-then-starts : goal.returns-then-starts

@@ -1,4 +1,3 @@
-use borrow.Author.Rules.{rules}
 use Rattle.json_value.proofs.Members.{key_unnamed, key_named}
 use Rattle.json_value.proofs.key.Goals as goal
 

@@ -1,13 +1,10 @@
 -- As long as every path before is below, the entries from the place on decide (`Stopping`). A path that is not below, and is not
 -- equal either, ends the search.
-use borrow.Author.Rules.{rules}
 use mathlib.Core.Path.{sym, ◌∙◌}
 use mathlib.Core.Bool.{true≢false, false≢true}
 use native.Mathlib.Omega.{arith}
-use Prim.Native.Nat.{◌-◌, ◌≤◌, ◌<◌}
-use borrow.Author.Tests.{not-true, not-false}
-use Rattle.laws.specs.SearchLaws.{Stopping, stop_start}
-use Rattle.listing.specs.Meaning.{Reached}
+use Prim.Native.Nat.{◌-◌, ◌<◌}
+use Rattle.laws.specs.SearchLaws.{stop_start}
 use Rattle.listing.proofs.Seek.{stop_at, ends_within, stop_none, reached_next, below_next}
 use Rattle.listing.proofs.all_below.Goals as goal
 
@@ -18,13 +15,12 @@ pub overflow_add-at : goal.overflow_add-at
 overflow_add-at c = omega (arith, c.requires.0.few)
 
 pub loop-i-init : goal.loop-i-init
-loop-i-init c =
-    let s = c in (
-      s.pre.0,
-      omega arith,
-      stop_start s.args.l.now s.args.path.now s.args.n
-          s.pre.0.count s.pre.0.tables,
-    )
+loop-i-init c = (
+  c.requires.0,
+  omega arith,
+  stop_start c.args.l.now c.args.path.now c.args.n
+      c.requires.0.count c.requires.0.tables,
+)
 
 pub pass_below-s-requires : goal.pass_below-s-requires
 pass_below-s-requires c = (c.loop-i.invariant.0, c.loop-i.invariant.1, c.requires.1, c.words_of-w.ensures.1)
@@ -77,7 +73,7 @@ returns-then-not-is_below c =
       λ e z. stop_none a.l.now a.path.now a.n p.result.index p.result.at
           k.result p.ensures.0 h k.ensures.0 a.to c.if-i-to.false c.requires.2 z
           (p.ensures.3 a.path.now c.words_of-w.ensures.0 c.loop-i.invariant.2)
-          (sym c.is_below.ensures ∙ not-true _ c.if-not-is_below.true),
+          (sym c.is_below.ensures ∙ c.if-not-is_below.true),
     )
 
 pub overflow_mul-n : goal.overflow_mul-n
@@ -127,7 +123,7 @@ loop-i-preserved c =
           (arith, c.if-i-to.false),
       below_next a.l.now a.path.now a.n p.result.index p.result.at k.result
           p.ensures.0 h k.ensures.0 m.result m.ensures.0 (sym c.is_below.ensures
-          ∙ not-false _ c.if-not-is_below.false) x.ensures.0
+          ∙ c.if-not-is_below.false) x.ensures.0
           (p.ensures.3 a.path.now c.words_of-w.ensures.0 c.loop-i.invariant.2),
     )
 

@@ -1,5 +1,4 @@
 use Rattle.laws.specs.ListingSteps.{part_beyond, part_reversed, part_rest}
-use borrow.Author.Rules.{rules}
 use Rattle.listing.proofs.contents.Goals as goal
 
 pub returns-then-start-l : goal.returns-then-start-l

@@ -1,6 +1,5 @@
 -- Eight bytes by their numbers of four.
 use Rattle.listing.proofs.Eights.{eight_of}
-use borrow.Author.Rules.{rules}
 use Rattle.listing.proofs.eight.Goals as goal
 
 pub returns : goal.returns

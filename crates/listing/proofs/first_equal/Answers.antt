@@ -1,8 +1,6 @@
 -- Where none of the entries so far has the path, it is missing as soon as it is missing among the rest.
-use borrow.Author.Rules.{rules}
 use native.Mathlib.Omega.{arith}
 use Prim.Native.Nat.{◌-◌}
-use Rattle.listing.specs.Meaning.{Reached, NoneBefore}
 use Rattle.listing.proofs.Seek.{none_at_all}
 use Rattle.listing.proofs.first_equal.Goals as goal
 

@@ -1,8 +1,5 @@
-use borrow.Author.Rules.{rules}
-use native.Mathlib.Omega.{arith}
 use Prim.Native.Nat.{◌-◌}
 use Rattle.listing.specs.Meaning.{Reached, NoneBefore}
-use Rattle.listing.proofs.Seek.{none_at_all}
 use Rattle.listing.proofs.first_equal.Given as goal
 
 abbrev pub invariant-loop-i : goal.invariant-loop-i

@@ -1,7 +1,6 @@
 -- A text is below another where it rises to it.
 use mathlib.Core.Path.{sym, ◌∙◌}
 use Rattle.listing.proofs.Partings.{told_up, told_down}
-use borrow.Author.Rules.{rules}
 use Rattle.listing.proofs.is_below.Goals as goal
 
 pub returns-in-Up : goal.returns-in-Up

@@ -1,5 +1,4 @@
 use Rattle.definition.specs.Listing.{is_directory_of, is_directory_entry}
-use borrow.Author.Rules.{rules}
 use mathlib.Core.Path.{sym, ◌∙◌, ap}
 use Rattle.listing.specs.Meaning.{seen}
 use Rattle.listing.proofs.is_directory.Goals as goal

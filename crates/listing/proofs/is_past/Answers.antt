@@ -3,7 +3,6 @@ use mathlib.Core.Path.{sym, ◌∙◌}
 use mathlib.Core.Bool.{false≢true}
 use native.Mathlib.Omega.{arith}
 use Rattle.listing.proofs.Seek.{past_here}
-use borrow.Author.Rules.{rules}
 use Rattle.listing.proofs.is_past.Goals as goal
 
 pub overflow_mul-i : goal.overflow_mul-i
@@ -23,8 +22,7 @@ returns-then-end-l c = λ e s. absurd (false≢true e)
 
 pub returns : goal.returns
 returns c =
-    let s = c in
-    let a = s.args in
+    let a = c.args in
     let k = c.number_at in
-    λ e. past_here a.l.now a.path.now a.n a.i a.at k.result s.pre.0 s.pre.1 k.ensures.0
+    λ e. past_here a.l.now a.path.now a.n a.i a.at k.result c.requires.0 c.requires.1 k.ensures.0
     (omega (arith, c.if-end-l.false)) (sym c.is_below.ensures ∙ e)

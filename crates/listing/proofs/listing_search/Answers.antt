@@ -1,6 +1,5 @@
 -- What is found, as a number.
 use Rattle.definition.specs.Ask.{number, state_of, asked}
-use borrow.Author.Rules.{rules}
 use mathlib.Core.Path.{sym, ◌∙◌, ap}
 use Rattle.listing.specs.Meaning.{seen}
 use Rattle.listing.proofs.listing_search.Goals as goal

@@ -3,7 +3,6 @@ use mathlib.Core.Path.{sym, ◌∙◌}
 use native.Mathlib.Omega.{arith}
 use Rattle.laws.specs.ListingSteps.{match_long, match_beyond, match_inside}
 use Rattle.listing.proofs.Seek.{match_tail}
-use borrow.Author.Rules.{rules}
 use Rattle.listing.proofs.matches.Goals as goal
 
 pub returns-then-end-at : goal.returns-then-end-at

@@ -1,6 +1,5 @@
 use mathlib.Core.Path.{◌∙◌}
 use Rattle.laws.specs.ListingSteps.{number_at}
-use borrow.Author.Rules.{rules}
 use Rattle.listing.proofs.number.Goals as goal
 
 pub returns : goal.returns

@@ -1,6 +1,5 @@
 use mathlib.Core.Path.{sym, ◌∙◌}
 use Rattle.laws.specs.ListingSteps.{number_at}
-use borrow.Author.Rules.{rules}
 use Rattle.listing.proofs.number_at.Goals as goal
 
 pub returns : goal.returns

@@ -1,11 +1,7 @@
 -- An entry that is below leaves the search to the rest.
 use borrow.Author.Rules.{rules}
-use mathlib.Core.List.{List}
 use native.Mathlib.Omega.{arith}
-use Prim.Native.Nat.{ℕ, ◌-◌, ◌≤◌, ◌<◌}
-use borrow.Author.Tests.{not-false}
-use Rattle.laws.specs.SearchLaws.{Stopping}
-use Rattle.listing.specs.Meaning.{Reached, WordsOf}
+use Prim.Native.Nat.{◌-◌, ◌<◌}
 use Rattle.listing.proofs.Seek.{reached_next, below_next, rest_below}
 use Rattle.listing.proofs.pass_below.Goals as goal
 
@@ -80,7 +76,7 @@ loop-i-preserved c =
     let k = c.number_at-k in
     let m = c.number_at-c in
     let x = c.contents_length in
-    let z = not-false _ c.if-not-surely_below.false in (
+    let z = c.if-not-surely_below.false in (
       reached_next a.l.now a.l.now a.n o.i o.at k.result o.invariant.0 h k.ensures.0 m.result
           m.ensures.0 x.ensures k.ensures.1 m.ensures.1,
       omega (arith, o.invariant.1),

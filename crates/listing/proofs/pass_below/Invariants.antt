@@ -1,11 +1,7 @@
-use borrow.Author.Rules.{rules}
 use mathlib.Core.List.{List}
-use native.Mathlib.Omega.{arith}
-use Prim.Native.Nat.{ℕ, ◌-◌, ◌≤◌, ◌<◌}
-use borrow.Author.Tests.{not-false}
+use Prim.Native.Nat.{ℕ, ◌-◌, ◌≤◌}
 use Rattle.laws.specs.SearchLaws.{Stopping}
 use Rattle.listing.specs.Meaning.{Reached, WordsOf}
-use Rattle.listing.proofs.Seek.{reached_next, below_next, rest_below}
 use Rattle.listing.proofs.pass_below.Given as goal
 
 abbrev pub invariant-loop-i : goal.invariant-loop-i

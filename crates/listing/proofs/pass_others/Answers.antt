@@ -1,13 +1,11 @@
 -- An entry that is passed over has another path, or does not lie within the bytes.
-use borrow.Author.Rules.{rules}
 use native.Mathlib.Omega.{arith}
-use Prim.Native.Nat.{◌-◌, ◌≤◌}
-use Rattle.listing.specs.Meaning.{Reached, NoneBefore}
+use Prim.Native.Nat.{◌-◌}
 use Rattle.listing.proofs.Seek.{reached_next, has_here, none_next}
 use Rattle.listing.proofs.pass_others.Goals as goal
 
 pub loop-i-init : goal.loop-i-init
-loop-i-init c = let s = c in (s.requires.0, s.requires.1, λ m. m)
+loop-i-init c = (c.requires.0, c.requires.1, λ m. m)
 
 pub overflow_mul-i : goal.overflow_mul-i
 overflow_mul-i c = omega (arith, c.loop-i.invariant.0.few, c.requires.2, c.loop-i-test.true)
@@ -31,15 +29,14 @@ overflow_add-end c =
 
 pub returns-then-matches : goal.returns-then-matches
 returns-then-matches c =
-    let s = c in
-    let a = s.args in
+    let a = c.args in
     let o = c.loop-i in
     let k = c.number_at in (
       o.invariant.0,
       o.invariant.1,
       o.invariant.2,
       λ u. has_here a.l.now a.path.now a.n o.i o.at k.result o.invariant.0
-          (omega (arith, c.loop-i-test.true, s.requires.2)) k.ensures.0 c.matches.ensures c.if-matches.true,
+          (omega (arith, c.loop-i-test.true, c.requires.2)) k.ensures.0 c.matches.ensures c.if-matches.true,
     )
 
 pub overflow_mul-n : goal.overflow_mul-n
@@ -72,17 +69,16 @@ overflow_add-at c =
 
 pub loop-i-preserved : goal.loop-i-preserved
 loop-i-preserved c =
-    let s = c in
-    let a = s.args in
+    let a = c.args in
     let o = c.loop-i in
     let k = c.number_at in
     let m = c.number_at-c in
     let h = c.loop-i-test.true in
     let l = c.contents_length in (
-      reached_next a.l.now a.path.now a.n o.i o.at k.result o.invariant.0 (omega (arith, h, s.pre.2))
+      reached_next a.l.now a.path.now a.n o.i o.at k.result o.invariant.0 (omega (arith, h, c.requires.2))
           k.ensures.0 m.result m.ensures.0 l.ensures k.ensures.1 m.ensures.1,
       omega (arith, h),
-      λ z. none_next a.l.now a.path.now a.n o.i o.at k.result o.invariant.0 (omega (arith, h, s.pre.2))
+      λ z. none_next a.l.now a.path.now a.n o.i o.at k.result o.invariant.0 (omega (arith, h, c.requires.2))
           k.ensures.0 c.matches.ensures c.if-matches.false
           (o.invariant.2 z),
     )

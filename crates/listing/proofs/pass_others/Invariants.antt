@@ -1,8 +1,5 @@
-use borrow.Author.Rules.{rules}
-use native.Mathlib.Omega.{arith}
 use Prim.Native.Nat.{◌-◌, ◌≤◌}
 use Rattle.listing.specs.Meaning.{Reached, NoneBefore}
-use Rattle.listing.proofs.Seek.{reached_next, has_here, none_next}
 use Rattle.listing.proofs.pass_others.Given as goal
 
 abbrev pub invariant-loop-i : goal.invariant-loop-i

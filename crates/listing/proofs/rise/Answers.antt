@@ -1,9 +1,6 @@
 -- What is shared does not decide the order, so the loop may begin behind it.
-use borrow.Author.Rules.{rules}
-use mathlib.Core.Path.{◌≡◌, sym, ◌∙◌}
-use Prim.Native.Nat.{◌-◌, ◌≤◌}
-use lib.ListN.{length, drop, take}
-use Rattle.definition.specs.Text.{smaller}
+use mathlib.Core.Path.{sym, ◌∙◌}
+use Prim.Native.Nat.{◌-◌}
 use Rattle.laws.specs.TextSteps.{smaller_end, larger_here, smaller_next, take_more}
 use Rattle.laws.specs.ListingOrder.{smaller_shared}
 use native.Mathlib.Omega.{arith}

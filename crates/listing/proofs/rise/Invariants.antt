@@ -1,12 +1,7 @@
-use borrow.Author.Rules.{rules}
-use mathlib.Core.Path.{◌≡◌, sym, ◌∙◌}
+use mathlib.Core.Path.{◌≡◌}
 use Prim.Native.Nat.{◌-◌, ◌≤◌}
 use lib.ListN.{length, drop, take}
 use Rattle.definition.specs.Text.{smaller}
-use Rattle.laws.specs.TextSteps.{smaller_end, larger_here, smaller_next, take_more}
-use Rattle.laws.specs.ListingOrder.{smaller_shared}
-use native.Mathlib.Omega.{arith}
-use Rattle.listing.proofs.Partings.{not_up, up_short, up_here}
 use Rattle.listing.proofs.rise.Given as goal
 
 abbrev pub invariant-loop-i : goal.invariant-loop-i

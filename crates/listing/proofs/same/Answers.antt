@@ -1,5 +1,4 @@
 use mathlib.Core.Path.{◌∙◌}
-use borrow.Author.Rules.{rules}
 use Rattle.laws.specs.ListingOrder.{equal_shared}
 use Rattle.listing.proofs.same.Goals as goal
 

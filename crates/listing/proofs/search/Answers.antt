@@ -1,7 +1,6 @@
 -- The places are those of the definition's search, and they tell what it finds.
 use Rattle.definition.specs.Listing.{entry_count}
 use Rattle.listing.proofs.Seek.{searched}
-use borrow.Author.Rules.{rules}
 use Rattle.listing.proofs.search.Goals as goal
 
 pub search_tables-a-requires : goal.search_tables-a-requires

@@ -1,30 +1,23 @@
 -- The search among the entries from the i-th on is the search among all.
-use borrow.Author.Tests.{not-true, not-false}
-use borrow.Author.Rules.{rules}
-use mathlib.Core.Path.{◌≡◌, sym, ◌∙◌}
-use Prim.Native.Nat.{◌-◌, ◌≤◌}
+use mathlib.Core.Path.{sym, ◌∙◌}
+use Prim.Native.Nat.{◌-◌}
 use native.Mathlib.Omega.{arith}
-use lib.ListN.{length}
-use Rattle.definition.specs.Listing.{place_in, place_at}
-use Rattle.laws.specs.ListingSteps.{rows_at}
 use Rattle.laws.specs.SearchLaws.{here_below, here_same, here_past, place_begin, place_end}
 use Rattle.listing.proofs.search_clamped.Goals as goal
 
 pub loop-i-init : goal.loop-i-init
-loop-i-init c =
-    let s = c in
-    (omega arith, place_begin s.args.l.now s.args.path.now _ _ s.pre.0 c.reach-at.ensures)
+loop-i-init c = (omega arith, place_begin c.args.l.now c.args.path.now _ _ c.requires.0 c.reach-at.ensures)
 
 pub clamped-p-requires : goal.clamped-p-requires
-clamped-p-requires c = let s = c in (s.pre.0, s.pre.1, c.loop-i-test.true, c.loop-i.invariant.0)
+clamped-p-requires c = (c.requires.0, c.requires.1, c.loop-i-test.true, c.loop-i.invariant.0)
 
 pub returns-then-not-same : goal.returns-then-not-same
 returns-then-not-same c =
     let a = c.args in
     let p = c.clamped-p.ensures in
     sym (here_past a.l.now a.path.now _ _ _ _ _ p.starts p.ends p.inside p.rows
-    (sym c.is_below.ensures ∙ not-true _ c.if-not-is_below.true) (sym c.same.ensures
-    ∙ not-true _ c.if-not-same.true)) ∙ c.loop-i.invariant.1
+    (sym c.is_below.ensures ∙ c.if-not-is_below.true) (sym c.same.ensures
+    ∙ c.if-not-same.true)) ∙ c.loop-i.invariant.1
 
 pub returns-then-p : goal.returns-then-p
 returns-then-p c =
@@ -32,7 +25,7 @@ returns-then-p c =
     let p = c.clamped-p.ensures in
     rw c.if-p.true at (sym
     (here_same a.l.now a.path.now _ _ _ _ _ p.starts p.ends p.inside p.rows
-    (sym c.same.ensures ∙ not-false _ c.if-not-same.false)) ∙ c.loop-i.invariant.1)
+    (sym c.same.ensures ∙ c.if-not-same.false)) ∙ c.loop-i.invariant.1)
 
 pub returns-then-not-is_below : goal.returns-then-not-is_below
 returns-then-not-is_below c =
@@ -40,7 +33,7 @@ returns-then-not-is_below c =
     let p = c.clamped-p.ensures in
     rw c.if-p.false at (sym
     (here_same a.l.now a.path.now _ _ _ _ _ p.starts p.ends p.inside p.rows
-    (sym c.same.ensures ∙ not-false _ c.if-not-same.false)) ∙ c.loop-i.invariant.1)
+    (sym c.same.ensures ∙ c.if-not-same.false)) ∙ c.loop-i.invariant.1)
 
 pub loop-i-preserved : goal.loop-i-preserved
 loop-i-preserved c =
@@ -48,11 +41,10 @@ loop-i-preserved c =
     let p = c.clamped-p.ensures in (
       p.inside,
       sym (here_below a.l.now a.path.now _ _ _ _ _ p.starts p.ends p.inside p.rows
-          (sym c.is_below.ensures ∙ not-false _ c.if-not-is_below.false)) ∙ c.loop-i.invariant.1,
+          (sym c.is_below.ensures ∙ c.if-not-is_below.false)) ∙ c.loop-i.invariant.1,
     )
 
 pub returns : goal.returns
 returns c =
-    let s = c in
-    sym (place_end s.args.l.now s.args.path.now c.loop-i.i c.loop-i.at
-    (omega (arith, s.pre.0, c.loop-i-test.false))) ∙ c.loop-i.invariant.1
+    sym (place_end c.args.l.now c.args.path.now c.loop-i.i c.loop-i.at
+    (omega (arith, c.requires.0, c.loop-i-test.false))) ∙ c.loop-i.invariant.1

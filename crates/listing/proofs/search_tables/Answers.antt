@@ -3,7 +3,6 @@
 use mathlib.Core.Path.{sym}
 use native.Mathlib.Omega.{arith}
 use Rattle.listing.proofs.Seek.{reached_first, stop_from, has_within}
-use borrow.Author.Rules.{rules}
 use Rattle.listing.proofs.search_tables.Goals as goal
 
 pub first_equal-sought-requires : goal.first_equal-sought-requires

@@ -1,10 +1,8 @@
 -- Four bytes are equal where their numbers are.
-use borrow.Author.Rules.{rules}
 use Prim.Native.Nat.{◌-◌}
 use native.Mathlib.Omega.{arith}
-use lib.ListN.{length}
 use mathlib.Core.Path.{sym, ◌∙◌}
-use Rattle.laws.specs.ListingOrder.{Shared, shared_start, shared_next}
+use Rattle.laws.specs.ListingOrder.{shared_start, shared_next}
 use Rattle.listing.proofs.shared.Goals as goal
 
 pub loop-i-init : goal.loop-i-init

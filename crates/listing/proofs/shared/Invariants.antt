@@ -1,9 +1,6 @@
-use borrow.Author.Rules.{rules}
 use Prim.Native.Nat.{◌-◌}
-use native.Mathlib.Omega.{arith}
 use lib.ListN.{length}
-use mathlib.Core.Path.{sym, ◌∙◌}
-use Rattle.laws.specs.ListingOrder.{Shared, shared_start, shared_next}
+use Rattle.laws.specs.ListingOrder.{Shared}
 use Rattle.listing.proofs.shared.Given as goal
 
 abbrev pub invariant-loop-i : goal.invariant-loop-i

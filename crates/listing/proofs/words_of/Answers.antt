@@ -1,6 +1,5 @@
 -- Each word is read as it is told, and each window begins in the one before it or right behind it.
 use native.Mathlib.Omega.{arith}
-use borrow.Author.Rules.{rules}
 use Rattle.listing.proofs.words_of.Goals as goal
 
 pub returns : goal.returns

@@ -1,12 +1,10 @@
 -- The rule over the entries from the i-th on is the rule over all.
-use borrow.Author.Rules.{rules}
-use mathlib.Core.Path.{◌≡◌, sym, ◌∙◌, ap}
-use borrow.Author.Tests.{not-true, not-false}
+use mathlib.Core.Path.{sym, ◌∙◌, ap}
 use Prim.Native.Nat.{◌-◌}
 use native.Mathlib.Omega.{arith}
 use Rattle.definition.specs.Text.{all}
 use Rattle.definition.specs.Listing.{entry_count, rows}
-use Rattle.laws.specs.ListingSteps.{rows_at, rows_stand, rows_end, all_next, all_end, Standing, standing_start}
+use Rattle.laws.specs.ListingSteps.{rows_stand, rows_end, all_next, all_end, standing_start}
 use Rattle.listing_check.specs.Meaning.{rule_of}
 use Rattle.listing_check.proofs.every.Goals as goal
 
@@ -27,13 +25,13 @@ keeps-requires c = let p = c.locate-p.ensures.0 in (p.starts, p.ends, p.inside)
 
 pub returns-then-not-keeps : goal.returns-then-not-keeps
 unfolding entry_count
-returns-then-not-keeps c = sym (all_next (rule_of c.args.rule) c.locate-p.ensures.0.rows (sym c.keeps.ensures ∙ not-true _ c.if-not-keeps.true)) ∙ c.loop-i.invariant.1
+returns-then-not-keeps c = sym (all_next (rule_of c.args.rule) c.locate-p.ensures.0.rows (sym c.keeps.ensures ∙ c.if-not-keeps.true)) ∙ c.loop-i.invariant.1
 
 pub loop-i-preserved : goal.loop-i-preserved
 unfolding entry_count
 loop-i-preserved c =
     let p = c.locate-p.ensures in
-    (p.1, sym (all_next (rule_of c.args.rule) p.0.rows (sym c.keeps.ensures ∙ not-false _ c.if-not-keeps.false)) ∙ c.loop-i.invariant.1)
+    (p.1, sym (all_next (rule_of c.args.rule) p.0.rows (sym c.keeps.ensures ∙ c.if-not-keeps.false)) ∙ c.loop-i.invariant.1)
 
 pub returns : goal.returns
 unfolding entry_count

@@ -1,11 +1,8 @@
-use borrow.Author.Rules.{rules}
-use mathlib.Core.Path.{◌≡◌, sym, ◌∙◌, ap}
-use borrow.Author.Tests.{not-true, not-false}
+use mathlib.Core.Path.{◌≡◌}
 use Prim.Native.Nat.{◌-◌}
-use native.Mathlib.Omega.{arith}
 use Rattle.definition.specs.Text.{all}
-use Rattle.definition.specs.Listing.{entry_count, rows}
-use Rattle.laws.specs.ListingSteps.{rows_at, rows_stand, rows_end, all_next, all_end, Standing, standing_start}
+use Rattle.definition.specs.Listing.{rows}
+use Rattle.laws.specs.ListingSteps.{rows_at, Standing}
 use Rattle.listing_check.specs.Meaning.{rule_of}
 use Rattle.listing_check.proofs.every.Given as goal
 

@@ -4,7 +4,6 @@ use lib.Dec.{leb}
 use Prim.Native.Nat.{ℕ}
 use Rattle.definition.specs.Listing.{no_directory_manifest}
 use Rattle.laws.specs.ListingOrder.{shallow}
-use borrow.Author.Rules.{rules}
 use Rattle.listing_check.proofs.keeps.Goals as goal
 
 pub returns-then-p : goal.returns-then-p

@@ -1,4 +1,3 @@
-use borrow.Author.Rules.{rules}
 use Rattle.listing_check.proofs.mark_of.Goals as goal
 
 pub returns-then-d : goal.returns-then-d

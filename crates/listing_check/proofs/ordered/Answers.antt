@@ -1,14 +1,12 @@
 -- The loop keeps `Kept`, and each way out of it breaks a rule.
 use borrow.Author.Rules.{rules}
-use borrow.Author.Tests.{not-true, not-false}
 use Prim.Native.Nat.{◌-◌}
 use native.Mathlib.Omega.{arith}
 use native.Mathlib.Nat.{le_trans}
-use mathlib.Core.Path.{refl}
 use Rattle.definition.specs.Listing.{entry_count}
 use Rattle.laws.specs.ListingSteps.{standing_start}
 use Rattle.laws.specs.ListingOrder.{marks_one, marks_more, marks_size}
-use Rattle.listing_check.proofs.Order.{Kept, not_root, not_directory, kept_start, kept_end, next_short, kept_wrong, kept_next}
+use Rattle.listing_check.proofs.Order.{not_root, not_directory, kept_start, kept_end, next_short, kept_wrong, kept_next}
 use Rattle.listing_check.proofs.ordered.Goals as goal
 
 pub locate-p-requires : goal.locate-p-requires
@@ -29,17 +27,17 @@ slice_bounds-equal-end c = le_trans c.locate-p.ensures.0.ends c.locate-p.ensures
 
 pub returns-then-not-equal : goal.returns-then-not-equal
 unfolding entry_count
-returns-then-not-equal c = not_root c.args.l.now _ c.requires.0 c.read_number-n.ensures.0 _ c.locate-p.ensures.0 c.equal.ensures (not-true _ c.if-not-equal.true)
+returns-then-not-equal c = not_root c.args.l.now _ c.requires.0 c.read_number-n.ensures.0 _ c.locate-p.ensures.0 c.equal.ensures c.if-not-equal.true
 
 pub returns-then-not-p : goal.returns-then-not-p
 unfolding entry_count
-returns-then-not-p c = not_directory c.args.l.now _ c.requires.0 c.read_number-n.ensures.0 _ c.locate-p.ensures.0 c.equal.ensures (not-false _ c.if-not-equal.false) (not-true _ c.if-not-p.true)
+returns-then-not-p c = not_directory c.args.l.now _ c.requires.0 c.read_number-n.ensures.0 _ c.locate-p.ensures.0 c.equal.ensures c.if-not-equal.false c.if-not-p.true
 
 pub loop-i-init : goal.loop-i-init
 unfolding entry_count
 loop-i-init c =
     let o = c.locate-p.ensures in
-    kept_start c.args.l.now _ c.requires.0 c.read_number-n.ensures.0 _ o.0 c.equal.ensures (not-false _ c.if-not-equal.false) (not-false _ c.if-not-p.false) c.requires.1 o.1 _ (marks_size 1025 1) (marks_one 1025 1 (search rules)) (marks_more 1025 1)
+    kept_start c.args.l.now _ c.requires.0 c.read_number-n.ensures.0 _ o.0 c.equal.ensures c.if-not-equal.false c.if-not-p.false c.requires.1 o.1 _ (marks_size 1025 1) (marks_one 1025 1 (search rules)) (marks_more 1025 1)
 
 pub locate-q-requires : goal.locate-q-requires
 unfolding entry_count
@@ -77,13 +75,13 @@ step-requires c =
 
 pub returns-then-not-step : goal.returns-then-not-step
 unfolding entry_count
-returns-then-not-step c = kept_wrong c.loop-i.invariant _ c.locate-q.ensures.0 c.step.new.1.1.1.0 c.step.result c.step.ensures (not-true _ c.if-not-step.true)
+returns-then-not-step c = kept_wrong c.loop-i.invariant _ c.locate-q.ensures.0 c.step.new.1.1.1.0 c.step.result c.step.ensures c.if-not-step.true
 
 pub loop-i-preserved : goal.loop-i-preserved
 unfolding entry_count
 loop-i-preserved c =
     let o = c.locate-q.ensures in
-    kept_next c.loop-i.invariant _ o.0 c.step.new.1.1.1.0 c.step.result c.step.ensures (not-false _ c.if-not-step.false) o.1
+    kept_next c.loop-i.invariant _ o.0 c.step.new.1.1.1.0 c.step.result c.step.ensures c.if-not-step.false o.1
 
 pub returns : goal.returns
 unfolding entry_count

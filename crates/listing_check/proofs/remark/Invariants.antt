@@ -1,7 +1,5 @@
-use borrow.Author.Rules.{rules}
 use Prim.Native.Nat.{◌+◌, ◌-◌, ◌≤◌}
-use native.Mathlib.Omega.{arith}
-use Rattle.laws.specs.ListingOrder.{Cleared, cleared_start, cleared_next, cleared_marked}
+use Rattle.laws.specs.ListingOrder.{Cleared}
 use Rattle.listing_check.proofs.remark.Given as goal
 
 abbrev pub invariant-loop-i : goal.invariant-loop-i

@@ -1,17 +1,15 @@
 -- The "/" that is met first from behind is the last, and the bytes behind it were all looked at.
 use mathlib.Core.Path.{◌≡◌, sym, ◌∙◌, ap}
 use mathlib.Core.Bool.{true, false, true≢false}
-use mathlib.Core.Logic.{⊎_elim}
-use Prim.Native.Nat.{suc, ◌+◌, ◌-◌, ◌≤◌, ◌<◌}
+use Prim.Native.Nat.{suc, ◌+◌, ◌-◌, ◌<◌}
 use native.Mathlib.Omega.{arith}
 use native.Mathlib.Nat.{le_refl}
-use lib.ListN.{length, drop}
+use lib.ListN.{length}
 use lib.Seq.{length-take-le}
 use borrow.Author.Tests.{not-false}
 use borrow.Author.Rules.{rules}
-use Rattle.definition.specs.Text.{slash, contains}
+use Rattle.definition.specs.Text.{slash}
 use Rattle.laws.specs.TextSteps.{contains_end, contains_not, last_at, last_none}
-use Rattle.listing_rules.specs.Meaning.{Plain}
 use Rattle.listing_rules.proofs.Names.{plain_end, plain_next}
 use Rattle.listing_rules.proofs.ending_of.Goals as goal
 use Rattle.listing_rules.proofs.ending_of.Goals.{else-not-is_plain, then-not-is_plain}

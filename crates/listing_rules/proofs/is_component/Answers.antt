@@ -1,7 +1,6 @@
 use mathlib.Core.Path.{sym}
 use native.Mathlib.Omega.{arith}
 use Rattle.laws.specs.ListingNameLaws.{component_empty, component_plain, component_dot, component_more, component_dots}
-use borrow.Author.Rules.{rules}
 use Rattle.listing_rules.proofs.is_component.Goals as goal
 
 pub returns-then-c-eq0 : goal.returns-then-c-eq0

@@ -1,7 +1,6 @@
 use mathlib.Core.Path.{sym, ◌∙◌}
 use native.Mathlib.Omega.{arith}
 use Rattle.laws.specs.ListingOrder.{sized_long, sized_empty, sized_full}
-use borrow.Author.Rules.{rules}
 use Rattle.listing_rules.proofs.is_sized.Goals as goal
 
 pub returns-then-path-gt1024 : goal.returns-then-path-gt1024

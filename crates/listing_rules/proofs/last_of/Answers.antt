@@ -4,7 +4,6 @@ use native.Mathlib.Omega.{arith}
 use Rattle.definition.specs.Text.{slash}
 use Rattle.laws.specs.PathSteps.{last_there}
 use Rattle.laws.specs.ListingNameLaws.{is_name}
-use borrow.Author.Rules.{rules}
 use Rattle.listing_rules.proofs.Names.{rest, plain_part, name_end_lem}
 use Rattle.listing_rules.proofs.last_of.Goals as goal
 

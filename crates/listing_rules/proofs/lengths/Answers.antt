@@ -1,11 +1,11 @@
 -- The sum so far and the sum of the rest are the whole sum.
 use borrow.Author.Rules.{rules}
 use mathlib.Core.Path.{◌≡◌, ◌∙◌, ap}
-use Prim.Native.Nat.{ℕ, ◌+◌, ◌-◌, ◌*◌, ◌≤◌}
+use Prim.Native.Nat.{ℕ, ◌+◌, ◌-◌, ◌*◌}
 use native.Mathlib.Omega.{arith}
 use lib.ListN.{drop}
 use Rattle.definition.specs.Listing.{number32, contents_length}
-use Rattle.laws.specs.ListingSteps.{path_length_at, contents_mark_at, lengths_at, lengths_next, lengths_end}
+use Rattle.laws.specs.ListingSteps.{path_length_at, contents_mark_at, lengths_next, lengths_end}
 use Rattle.listing.proofs.Numbers.{number_part}
 use Rattle.listing_rules.proofs.lengths.Goals as goal
 

@@ -1,11 +1,6 @@
-use borrow.Author.Rules.{rules}
-use mathlib.Core.Path.{◌≡◌, ◌∙◌, ap}
-use Prim.Native.Nat.{ℕ, ◌+◌, ◌-◌, ◌*◌, ◌≤◌}
-use native.Mathlib.Omega.{arith}
-use lib.ListN.{drop}
-use Rattle.definition.specs.Listing.{number32, contents_length}
-use Rattle.laws.specs.ListingSteps.{path_length_at, contents_mark_at, lengths_at, lengths_next, lengths_end}
-use Rattle.listing.proofs.Numbers.{number_part}
+use mathlib.Core.Path.{◌≡◌}
+use Prim.Native.Nat.{◌+◌, ◌-◌, ◌*◌, ◌≤◌}
+use Rattle.laws.specs.ListingSteps.{lengths_at}
 use Rattle.listing_rules.proofs.lengths.Given as goal
 
 abbrev pub invariant-loop-i : goal.invariant-loop-i

@@ -6,7 +6,6 @@ use lib.ListN.{length, drop}
 use Rattle.definition.specs.Listing.{number32, entry_count, text_length}
 use Rattle.laws.specs.ListingSteps.{sizes_is}
 use Rattle.listing.proofs.Numbers.{number_part}
-use borrow.Author.Rules.{rules}
 use Rattle.listing_rules.proofs.sizes.Goals as goal
 
 pub returns-then-l-gt65536 : goal.returns-then-l-gt65536

@@ -2,7 +2,6 @@
 -- bits, which hold the lengths of the texts (at most 6,157) and the consults (at most the limit).
 use native.Mathlib.Omega.{arith}
 use Rattle.lookup.proofs.Lengths.{three_short, consults_short, counts_left}
-use borrow.Author.Rules.{rules}
 use Rattle.lookup.proofs.hannuvozh_lookup.Goals as goal
 
 pub overflow_cast-counts : goal.overflow_cast-counts
@@ -10,7 +9,7 @@ overflow_cast-counts c =
     omega (
       arith,
       three_short c.lookup-reply.result _ _ _ _ _ _ c.ending_of-ending.result
-          c.lookup-reply.ensures c.ending_of-ending.ensures.1,
+          c.lookup-reply.ensures c.ending_of-ending.ensures.lengths,
     )
 
 pub overflow_cast-counts-2 : goal.overflow_cast-counts-2
@@ -18,7 +17,7 @@ overflow_cast-counts-2 c =
     omega (
       arith,
       three_short c.lookup-reply.result _ _ _ _ _ _ c.ending_of-ending.result
-          c.lookup-reply.ensures c.ending_of-ending.ensures.1,
+          c.lookup-reply.ensures c.ending_of-ending.ensures.lengths,
     )
 
 pub overflow_cast-counts-3 : goal.overflow_cast-counts-3
@@ -26,7 +25,7 @@ overflow_cast-counts-3 c =
     omega (
       arith,
       three_short c.lookup-reply.result _ _ _ _ _ _ c.ending_of-ending.result
-          c.lookup-reply.ensures c.ending_of-ending.ensures.1,
+          c.lookup-reply.ensures c.ending_of-ending.ensures.lengths,
     )
 
 pub overflow_cast-counts-4 : goal.overflow_cast-counts-4
@@ -34,5 +33,5 @@ overflow_cast-counts-4 c = omega (arith, consults_short c.lookup-reply.result _ 
 
 pub returns : goal.returns
 returns c =
-    counts_left c.lookup-reply.result _ _ _ _ _ _ _ c.lookup-reply.ensures c.ending_of-ending.ensures.0
-    c.ending_of-ending.ensures.1
+    counts_left c.lookup-reply.result _ _ _ _ _ _ _ c.lookup-reply.ensures c.ending_of-ending.ensures.number
+    c.ending_of-ending.ensures.lengths

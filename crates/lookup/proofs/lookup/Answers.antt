@@ -1,6 +1,5 @@
 -- `lookup::lookup` meets its contract, by the laws of `output::Filling`.
 use Rattle.output.proofs.Filling.{zero_all}
-use borrow.Author.Rules.{rules}
 use Rattle.lookup.proofs.lookup.Goals as goal
 
 pub returns : goal.returns

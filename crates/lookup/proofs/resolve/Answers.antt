@@ -6,7 +6,6 @@ use Rattle.lookup.specs.Meaning.{question_of}
 use Rattle.output.specs.Meaning.{rooms_of}
 use Rattle.output.proofs.Delivering.{when_refused, when_accepted}
 use Rattle.lookup.proofs.Walking.{bare_done, walked, same_rooms, called_by, passed_by}
-use borrow.Author.Rules.{rules}
 use Rattle.lookup.proofs.resolve.Goals as goal
 
 pub returns-in-Refused : goal.returns-in-Refused
@@ -27,9 +26,9 @@ returns-in-Accepted c =
     let p = passed_by q m o.result (o.ensures a.limit m refl) c.in-Accepted.is in
     let d = c.load_package_self_or_node_modules-finished in
     let k = d.kept.1.1.1.1.1 in
-    let done = bare_done q m p (d.ensures.0 (let h = p.work in omega arith) p.specifier) in
+    let done = bare_done q m p (d.ensures.done (let h = p.work in omega arith) p.specifier) in
     when_accepted m 0 o.result _ _ _ (called_by q m o.result (o.ensures a.limit m refl))
     c.in-Accepted.is
     (same_rooms q m p _ _ _ _ _ _ _ _ k.0 k.1.0 k.1.1.0 done _ _
-    (c.deliver.ensures.0 _ _ _
+    (c.deliver.ensures.done _ _ _
     (walked q m p _ _ _ _ _ _ _ _ k.0 k.1.0 k.1.1.0 done)))

@@ -1,6 +1,5 @@
 use mathlib.Core.Path.{◌∙◌, sym}
 use Rattle.definition.specs.Path.{depth}
-use borrow.Author.Rules.{rules}
 use Rattle.manifests.proofs.depth.Goals as goal
 
 pub returns-then-equal : goal.returns-then-equal

@@ -1,15 +1,8 @@
 -- The loop's invariant: whatever finishes the search from the directory in hand finishes it from where the loop began.
-use mathlib.Core.Path.{◌≡◌, refl, ◌∙◌, ap}
-use Prim.Native.Nat.{ℕ}
-use mathlib.Core.List.{List}
-use native.Mathlib.Omega.{arith}
+use mathlib.Core.Path.{refl, ◌∙◌, ap}
 use lib.ListN.{length}
 use Rattle.definition.specs.Path.{parent}
-use Rattle.definition.specs.Settings.{Settings}
-use Rattle.definition.specs.Called.{seen_by}
-use Rattle.consults.specs.Meaning.{tape_of}
-use Rattle.manifests.proofs.Climbs.{Climbing, climbing_start, climbing_more, climbing_none, climbing_found, climbing_stop}
-use borrow.Author.Rules.{rules}
+use Rattle.manifests.proofs.Climbs.{climbing_start, climbing_more, climbing_none, climbing_found, climbing_stop}
 use Rattle.manifests.proofs.find_package_json.Goals as goal
 
 pub loop-start-init : goal.loop-start-init

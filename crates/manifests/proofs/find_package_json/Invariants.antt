@@ -1,14 +1,11 @@
-use mathlib.Core.Path.{◌≡◌, refl, ◌∙◌, ap}
+use mathlib.Core.Path.{◌≡◌}
 use Prim.Native.Nat.{ℕ}
 use mathlib.Core.List.{List}
-use native.Mathlib.Omega.{arith}
 use lib.ListN.{length}
-use Rattle.definition.specs.Path.{parent}
 use Rattle.definition.specs.Settings.{Settings}
 use Rattle.definition.specs.Called.{seen_by}
 use Rattle.consults.specs.Meaning.{tape_of}
-use Rattle.manifests.proofs.Climbs.{Climbing, climbing_start, climbing_more, climbing_none, climbing_found, climbing_stop}
-use borrow.Author.Rules.{rules}
+use Rattle.manifests.proofs.Climbs.{Climbing}
 use Rattle.manifests.proofs.find_package_json.Given as goal
 
 abbrev pub invariant-loop-start : goal.invariant-loop-start

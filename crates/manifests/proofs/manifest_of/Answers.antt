@@ -1,4 +1,3 @@
-use borrow.Author.Rules.{rules}
 use Rattle.manifests.proofs.manifest_of.Goals as goal
 
 pub returns-in-File : goal.returns-in-File

@@ -1,5 +1,4 @@
 use Rattle.definition.specs.Ask.{opened}
-use borrow.Author.Rules.{rules}
 use Rattle.manifests.proofs.opened_state.Goals as goal
 
 pub returns-in-Absent : goal.returns-in-Absent

@@ -1,7 +1,6 @@
 -- `manifests::read_manifest` meets its contract, by the laws of `Climbs`.
 use native.Mathlib.Omega.{arith}
 use Rattle.manifests.proofs.Climbs.{done_opened, manifest_long, manifest_fits, ManifestOver}
-use borrow.Author.Rules.{rules}
 use Rattle.manifests.proofs.read_manifest.Goals as goal
 
 pub returns-then-n-gt2048 : goal.returns-then-n-gt2048

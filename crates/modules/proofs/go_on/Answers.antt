@@ -2,7 +2,6 @@
 use borrow.Author.Tests.{not-true, not-false}
 use Rattle.directory.proofs.Rooms.{was_done, fits}
 use Rattle.modules.proofs.Modules.{exports_loaded}
-use borrow.Author.Rules.{rules}
 use Rattle.modules.proofs.go_on.Goals as goal
 
 pub returns-then-not-is_dir : goal.returns-then-not-is_dir

@@ -1,6 +1,5 @@
 -- `modules::in_modules` meets its contract, by the laws of `Modules`.
 use Rattle.modules.proofs.Modules.{modules_long, modules_there}
-use borrow.Author.Rules.{rules}
 use Rattle.modules.proofs.in_modules.Goals as goal
 
 pub returns-then-n-gt2048 : goal.returns-then-n-gt2048

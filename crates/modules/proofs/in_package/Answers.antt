@@ -4,7 +4,6 @@ use native.Mathlib.Omega.{arith}
 use borrow.Author.Tests.{not-true, not-false}
 use Rattle.directory.proofs.Rooms.{was_done, enough}
 use Rattle.modules.proofs.Modules.{package_unknown, package_ended, package_past, package_on}
-use borrow.Author.Rules.{rules}
 use Rattle.modules.proofs.in_package.Goals as goal
 
 pub returns-in_default : goal.returns-in_default

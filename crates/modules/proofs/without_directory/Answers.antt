@@ -1,8 +1,6 @@
 -- `modules::without_directory` meets its contract, by the laws of `Modules`.
 use mathlib.Core.Path.{sym, ◌∙◌}
-use borrow.Author.Tests.{not-true, not-false}
 use Rattle.modules.proofs.Modules.{subpath_left, unscoped, scoped}
-use borrow.Author.Rules.{rules}
 use Rattle.modules.proofs.without_directory.Goals as goal
 
 pub returns-then-sub-gt0 : goal.returns-then-sub-gt0
@@ -11,9 +9,9 @@ returns-then-sub-gt0 c = λ G spec res. subpath_left G _ _ _ _ _ c.if-sub-gt0.tr
 pub returns-then-not-starts_with : goal.returns-then-not-starts_with
 returns-then-not-starts_with c =
     λ G spec res. unscoped G _ _ _ _ _ c.if-sub-gt0.false (sym c.starts_with.ensures
-    ∙ not-true _ c.if-not-starts_with.true)
+    ∙ c.if-not-starts_with.true)
 
 pub returns : goal.returns
 returns c =
     λ G spec res. scoped G _ _ _ _ c.if-sub-gt0.false (sym c.starts_with.ensures
-    ∙ not-false _ c.if-not-starts_with.false) (rw c.parent.ensures at (c.is_directory.ensures G res))
+    ∙ c.if-not-starts_with.false) (rw c.parent.ensures at (c.is_directory.ensures G res))

@@ -2,7 +2,6 @@
 use mathlib.Core.Path.{◌≡◌}
 use native.Mathlib.Omega.{arith}
 use lib.ListN.{length}
-use borrow.Author.Rules.{rules}
 use Rattle.definition.specs.Called.{joined, paths}
 use Rattle.answer.specs.Room.{text_length}
 use Rattle.answer.proofs.Endings.{case_of}

@@ -1,7 +1,6 @@
 use mathlib.Core.Path.{◌∙◌}
 use native.Mathlib.Omega.{arith}
 use lib.ListN.{length-set}
-use borrow.Author.Rules.{rules}
 use Rattle.output.proofs.Filling.{numbers_done}
 use Rattle.output.proofs.finish_numbers.Goals as goal
 

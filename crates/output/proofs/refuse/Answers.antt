@@ -1,4 +1,3 @@
-use borrow.Author.Rules.{rules}
 use Rattle.definition.specs.Called.{zeros}
 use Rattle.output.proofs.Filling.{zero_all}
 use Rattle.output.proofs.refuse.Goals as goal

@@ -1,10 +1,10 @@
 -- The loop's invariant: the first i numbers have been spread.
 use mathlib.Core.Path.{◌≡◌, refl, sym, ◌∙◌}
-use Prim.Native.Nat.{◌+◌, ◌≤◌, ◌<◌, ◌-◌}
+use Prim.Native.Nat.{◌+◌, ◌<◌, ◌-◌}
 use native.Mathlib.Omega.{arith}
-use lib.ListN.{length, get_or, length-set}
+use lib.ListN.{get_or, length-set}
 use borrow.Author.Rules.{rules}
-use Rattle.output.proofs.Spreading.{spread_to, spread_start, spread_end, packed_at, spread_here, spread_step}
+use Rattle.output.proofs.Spreading.{spread_start, spread_end, packed_at, spread_here, spread_step}
 use Rattle.output.proofs.spread.Goals as goal
 
 pub loop-i-init : goal.loop-i-init

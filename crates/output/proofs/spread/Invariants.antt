@@ -1,9 +1,7 @@
-use mathlib.Core.Path.{◌≡◌, refl, sym, ◌∙◌}
-use Prim.Native.Nat.{◌+◌, ◌≤◌, ◌<◌, ◌-◌}
-use native.Mathlib.Omega.{arith}
-use lib.ListN.{length, get_or, length-set}
-use borrow.Author.Rules.{rules}
-use Rattle.output.proofs.Spreading.{spread_to, spread_start, spread_end, packed_at, spread_here, spread_step}
+use mathlib.Core.Path.{◌≡◌}
+use Prim.Native.Nat.{◌≤◌, ◌-◌}
+use lib.ListN.{length}
+use Rattle.output.proofs.Spreading.{spread_to}
 use Rattle.output.proofs.spread.Given as goal
 
 abbrev pub invariant-loop-i : goal.invariant-loop-i

@@ -2,7 +2,6 @@ use mathlib.Core.Path.{◌∙◌}
 use native.Mathlib.Omega.{arith}
 use Rattle.definition.specs.Settings.{settings_of}
 use Rattle.package_exports.proofs.Fields.{dotted_text, exports_missing, exports_there}
-use borrow.Author.Rules.{rules}
 use Rattle.package_exports.proofs.by_exports.Goals as goal
 
 pub returns-in_default : goal.returns-in_default

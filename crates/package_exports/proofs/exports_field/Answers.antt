@@ -1,5 +1,5 @@
 -- The loop's invariant: the exports fields before i are not there.
-use mathlib.Core.Path.{refl, ◌∙◌, ap}
+use mathlib.Core.Path.{◌∙◌, ap}
 use mathlib.Core.List.{[]}
 use Prim.Native.Nat.{◌-◌, ◌<◌}
 use native.Mathlib.Omega.{arith}
@@ -7,8 +7,7 @@ use lib.ListN.{length, drop}
 use Rattle.definition.specs.JsonAt.{get_at}
 use Rattle.definition.specs.Settings.{texts_of}
 use Rattle.files.proofs.Files.{left_texts, none_left}
-use Rattle.package_exports.proofs.Fields.{Passed, passed_end, passed_more, passed_here}
-use borrow.Author.Rules.{rules}
+use Rattle.package_exports.proofs.Fields.{passed_end, passed_more, passed_here}
 use Rattle.package_exports.proofs.exports_field.Goals as goal
 
 pub returns-in_default : goal.returns-in_default

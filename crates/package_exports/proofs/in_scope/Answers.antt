@@ -4,7 +4,6 @@ use native.Mathlib.Omega.{arith}
 use lib.ListN.{length, length-drop}
 use Rattle.directory.proofs.Manifests.{field_text, text_there}
 use Rattle.package_exports.proofs.Fields.{self_nameless, self_other, self_named}
-use borrow.Author.Rules.{rules}
 use Rattle.package_exports.proofs.in_scope.Goals as goal
 
 pub returns-in_default-stripped : goal.returns-in_default-stripped

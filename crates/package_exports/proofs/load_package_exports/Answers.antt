@@ -4,7 +4,6 @@ use Rattle.definition.specs.Walk.{LOAD_PACKAGE_EXPORTS}
 use Rattle.directory.proofs.Manifests.{own_ended}
 use Rattle.directory.proofs.Rooms.{is_done, is_refused_lem, fits, no_room, too_long}
 use Rattle.package_exports.proofs.Fields.{package_bare, package_manifest}
-use borrow.Author.Rules.{rules}
 use Rattle.package_exports.proofs.load_package_exports.Goals as goal
 
 pub returns-then-work-lt1024 : goal.returns-then-work-lt1024
@@ -18,15 +17,15 @@ returns-in_default c =
     unfold LOAD_PACKAGE_EXPORTS in
     let o = c.own-found in
     let g = settings_of c.args.s.now in
-    is_done _ (fits 22 512 _ _ c.if-work-lt1024.false c.if-sub-gt512.false) (own_ended g c.args.l.now o.result.way o.result.package _ c.in_default.keys2 (o.ensures.0 g))
+    is_done _ (fits 22 512 _ _ c.if-work-lt1024.false c.if-sub-gt512.false) (own_ended g c.args.l.now o.result.way o.result.package _ c.in_default.keys2 (o.ensures.done g))
 
 pub returns-in_default-package : goal.returns-in_default-package
 returns-in_default-package c =
     let g = settings_of c.args.s.now in
-    rw c.next.ensures (is_done _ (fits 22 512 _ _ c.if-work-lt1024.false c.if-sub-gt512.false) (package_bare g _ _ _ (rw (c.in-Next.is, c.in_default-package.is) at (c.own-found.ensures.0 g))))
+    rw c.next.ensures (is_done _ (fits 22 512 _ _ c.if-work-lt1024.false c.if-sub-gt512.false) (package_bare g _ _ _ (rw (c.in-Next.is, c.in_default-package.is) at (c.own-found.ensures.done g))))
 
 pub by_exports-requires : goal.by_exports-requires
-by_exports-requires c = (c.if-work-lt1024.false, c.if-sub-gt512.false, rw (c.in-Next.is, c.in-At.is) at c.own-found.ensures.1.1)
+by_exports-requires c = (c.if-work-lt1024.false, c.if-sub-gt512.false, rw (c.in-Next.is, c.in-At.is) at c.own-found.ensures.held.1)
 
 pub shape_of-res : goal.shape_of-res
 shape_of-res c = c.by_exports.auto.1.1.1.1.1.1.1.0 ∙ c.own-found.auto.1.1.0
@@ -36,4 +35,4 @@ returns c =
     let o = c.own-found in
     let p = c.package-1.given in
     let g = settings_of c.args.s.now in
-    is_done _ (fits 22 512 _ _ c.if-work-lt1024.false c.if-sub-gt512.false) (package_manifest g _ _ _ _ (rw (c.in-Next.is, p.1) at (o.ensures.0 g)) (c.by_exports.ensures _ (rw c.contents-manifest.ensures (rw p.1 at o.ensures.1.0))))
+    is_done _ (fits 22 512 _ _ c.if-work-lt1024.false c.if-sub-gt512.false) (package_manifest g _ _ _ _ (rw (c.in-Next.is, p.1) at (o.ensures.done g)) (c.by_exports.ensures _ (rw c.contents-manifest.ensures (rw p.1 at o.ensures.held.0))))

@@ -6,7 +6,6 @@ use Rattle.definition.specs.Path.{dirs}
 use Rattle.directory.proofs.Manifests.{scope_fits}
 use Rattle.directory.proofs.Rooms.{is_done, is_refused_lem, fits, no_room, too_long}
 use Rattle.package_exports.proofs.Fields.{self_ended, self_bare, self_scope}
-use borrow.Author.Rules.{rules}
 use Rattle.package_exports.proofs.load_package_self.Goals as goal
 
 pub returns-then-work-lt1024 : goal.returns-then-work-lt1024
@@ -21,14 +20,14 @@ returns-in_default c =
     let a = c.args in
     let g = settings_of a.s.now in
     is_done _ (fits 22 512 _ _ c.if-work-lt1024.false c.if-spec-gt512.false)
-    (self_ended g a.start.now _ a.l.now o.result.way o.result.package c.in_default.keys2 (o.ensures.0 g))
+    (self_ended g a.start.now _ a.l.now o.result.way o.result.package c.in_default.keys2 (o.ensures.done g))
 
 pub returns-in_default-package : goal.returns-in_default-package
 returns-in_default-package c =
     let g = settings_of c.args.s.now in
     rw c.next.ensures (is_done _ (fits 22 512 _ _ c.if-work-lt1024.false c.if-spec-gt512.false)
     (self_bare g _ _ (rw (c.in-Next.is, c.in_default-package.is) at
-    (c.scope-found.ensures.0 g))))
+    (c.scope-found.ensures.done g))))
 
 pub in_scope-requires : goal.in_scope-requires
 in_scope-requires c =
@@ -38,7 +37,7 @@ in_scope-requires c =
       c.if-spec-gt512.false,
       rw c.first-dir.ensures
           (scope_fits g (dirs c.args.start.now) _
-          (rw (c.in-Next.is, c.in-At.is) at (o.ensures.0 g))),
+          (rw (c.in-Next.is, c.in-At.is) at (o.ensures.done g))),
     )
 
 pub shape_of-res : goal.shape_of-res
@@ -57,5 +56,5 @@ returns c =
     let m = c.contents-manifest.ensures in
     let g = settings_of c.args.s.now in
     is_done _ (fits 22 512 _ _ c.if-work-lt1024.false c.if-spec-gt512.false)
-    (self_scope g _ _ _ (rw (c.in-Next.is, p.1) at (o.ensures.0 g))
-    (rw (c.first-dir.ensures, m) at (c.in_scope.ensures _ (rw (p.1, ← m) at o.ensures.1))))
+    (self_scope g _ _ _ (rw (c.in-Next.is, p.1) at (o.ensures.done g))
+    (rw (c.first-dir.ensures, m) at (c.in_scope.ensures _ (rw (p.1, ← m) at o.ensures.held))))

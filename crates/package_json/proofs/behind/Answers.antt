@@ -1,5 +1,4 @@
 use Prim.Native.Nat.{◌-◌}
-use borrow.Author.Rules.{rules}
 use Rattle.json_string.proofs.Rules.{here, past}
 use Rattle.definition.specs.JsonAt.{behind}
 use borrow.Author.Tests.{eq-eqb, ne_eqb}

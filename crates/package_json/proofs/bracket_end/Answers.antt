@@ -1,10 +1,8 @@
-use mathlib.Core.Path.{◌≡◌, refl, sym, ◌∙◌, ap}
-use Prim.Native.Nat.{◌-◌, ◌≤◌}
-use lib.ListN.{length, drop}
+use mathlib.Core.Path.{refl, sym, ◌∙◌, ap}
+use Prim.Native.Nat.{◌-◌}
 use native.Mathlib.Omega.{arith}
 use borrow.Author.Rules.{rules}
 use Rattle.package_json.proofs.Walks.{bracket_cut}
-use Rattle.definition.specs.JsonAt.{outside, bracket_end}
 use Rattle.package_json.specs.Cursors.{hopped}
 use Rattle.package_json.proofs.bracket_end.Goals as goal
 

@@ -1,11 +1,7 @@
-use mathlib.Core.Path.{◌≡◌, refl, sym, ◌∙◌, ap}
+use mathlib.Core.Path.{◌≡◌}
 use Prim.Native.Nat.{◌-◌, ◌≤◌}
 use lib.ListN.{length, drop}
-use native.Mathlib.Omega.{arith}
-use borrow.Author.Rules.{rules}
-use Rattle.package_json.proofs.Walks.{bracket_cut}
 use Rattle.definition.specs.JsonAt.{outside, bracket_end}
-use Rattle.package_json.specs.Cursors.{hopped}
 use Rattle.package_json.proofs.bracket_end.Given as goal
 
 abbrev pub invariant-loop-i : goal.invariant-loop-i

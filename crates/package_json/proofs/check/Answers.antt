@@ -1,5 +1,4 @@
 use Prim.Native.Nat.{◌-◌}
-use borrow.Author.Rules.{rules}
 use Rattle.package_json.proofs.Whole.{check_long, check_fault, check_more, check_all}
 use Rattle.package_json.proofs.check.Goals as goal
 

@@ -1,8 +1,6 @@
-use mathlib.Core.Path.{◌≡◌, sym, ◌∙◌, ap}
+use mathlib.Core.Path.{sym, ◌∙◌, ap}
 use Prim.Native.Nat.{◌-◌}
-use lib.ListN.{drop}
-use borrow.Author.Rules.{rules}
-use Rattle.definition.specs.JsonAt.{further, then_at, next_element, first_element, element_at}
+use Rattle.definition.specs.JsonAt.{further, then_at, next_element, element_at}
 use Rattle.package_json.specs.Cursors.{placed}
 use Rattle.package_json.proofs.Walks.{further_none, further_on, further_done}
 use Rattle.package_json.proofs.element.Goals as goal

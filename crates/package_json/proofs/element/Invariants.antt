@@ -1,10 +1,8 @@
-use mathlib.Core.Path.{◌≡◌, sym, ◌∙◌, ap}
+use mathlib.Core.Path.{◌≡◌}
 use Prim.Native.Nat.{◌-◌}
 use lib.ListN.{drop}
-use borrow.Author.Rules.{rules}
-use Rattle.definition.specs.JsonAt.{further, then_at, next_element, first_element, element_at}
+use Rattle.definition.specs.JsonAt.{further, next_element, first_element}
 use Rattle.package_json.specs.Cursors.{placed}
-use Rattle.package_json.proofs.Walks.{further_none, further_on, further_done}
 use Rattle.package_json.proofs.element.Given as goal
 
 abbrev pub invariant-loop-left : goal.invariant-loop-left

@@ -1,6 +1,4 @@
 use mathlib.Core.Path.{◌∙◌, ap}
-use Prim.Native.Nat.{◌-◌}
-use borrow.Author.Rules.{rules}
 use Rattle.definition.specs.JsonAt.{first_member, then_at, unless_closed}
 use Rattle.package_json.proofs.first_member.Goals as goal
 

@@ -1,9 +1,7 @@
-use mathlib.Core.Path.{◌≡◌, sym, ◌∙◌, ap}
+use mathlib.Core.Path.{sym, ◌∙◌, ap}
 use mathlib.Core.Option.{none}
 use Prim.Native.Nat.{◌-◌}
-use lib.ListN.{drop}
-use borrow.Author.Rules.{rules}
-use Rattle.definition.specs.JsonAt.{find_member, first_member, get_at}
+use Rattle.definition.specs.JsonAt.{find_member, get_at}
 use Rattle.package_json.specs.Cursors.{placed}
 use Rattle.package_json.proofs.Walks.{find_none, find_over, get_on}
 use Rattle.package_json.proofs.get.Goals as goal

@@ -1,11 +1,9 @@
-use mathlib.Core.Path.{◌≡◌, sym, ◌∙◌, ap}
+use mathlib.Core.Path.{◌≡◌}
 use mathlib.Core.Option.{none}
 use Prim.Native.Nat.{◌-◌}
 use lib.ListN.{drop}
-use borrow.Author.Rules.{rules}
-use Rattle.definition.specs.JsonAt.{find_member, first_member, get_at}
+use Rattle.definition.specs.JsonAt.{find_member, first_member}
 use Rattle.package_json.specs.Cursors.{placed}
-use Rattle.package_json.proofs.Walks.{find_none, find_over, get_on}
 use Rattle.package_json.proofs.get.Given as goal
 
 abbrev pub invariant-loop-left : goal.invariant-loop-left

@@ -1,6 +1,5 @@
 use Prim.Native.Nat.{◌-◌}
 use Rattle.package_json.proofs.Whole.{mark_short, mark_first, mark_second, mark_third, mark_there}
-use borrow.Author.Rules.{rules}
 use Rattle.package_json.proofs.mark.Goals as goal
 
 pub returns-then-m-lt3 : goal.returns-then-m-lt3

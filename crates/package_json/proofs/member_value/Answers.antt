@@ -1,6 +1,5 @@
 use mathlib.Core.Path.{sym, ◌∙◌}
 use Prim.Native.Nat.{◌-◌}
-use borrow.Author.Rules.{rules}
 use Rattle.definition.specs.JsonAt.{member_value}
 use Rattle.package_json.proofs.member_value.Goals as goal
 

@@ -1,5 +1,4 @@
-use mathlib.Core.Path.{sym, ◌∙◌}
-use borrow.Author.Rules.{rules}
+use mathlib.Core.Path.{◌∙◌}
 use Rattle.package_json.proofs.next_behind.Goals as goal
 
 pub returns-in-Nothing : goal.returns-in-Nothing

@@ -1,6 +1,5 @@
 use mathlib.Core.Path.{sym, ◌∙◌}
 use Prim.Native.Nat.{◌-◌}
-use borrow.Author.Rules.{rules}
 use Rattle.definition.specs.JsonAt.{next_member}
 use Rattle.package_json.proofs.next_member.Goals as goal
 

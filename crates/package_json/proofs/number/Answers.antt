@@ -1,5 +1,4 @@
 use Prim.Native.Nat.{◌-◌}
-use borrow.Author.Rules.{rules}
 use Rattle.definition.specs.Json.{fault_number}
 use Rattle.package_json.proofs.number.Goals as goal
 

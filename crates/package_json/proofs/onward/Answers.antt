@@ -1,7 +1,6 @@
 use mathlib.Core.Path.{sym, ◌∙◌, ap}
 use Prim.Native.Nat.{◌-◌}
 use native.Mathlib.Omega.{arith}
-use borrow.Author.Rules.{rules}
 use Rattle.package_json.proofs.Walks.{onward_text, onward_open, onward_out, onward_close, onward_on}
 use Rattle.definition.specs.JsonAt.{then_at, outside, bracket_end}
 use Rattle.package_json.specs.Cursors.{placed}

@@ -1,6 +1,5 @@
 use mathlib.Core.Path.{sym, ◌∙◌}
 use Prim.Native.Nat.{◌-◌}
-use borrow.Author.Rules.{rules}
 use Rattle.json_string.proofs.Rules.{here, past}
 use Rattle.definition.specs.JsonAt.{unless_closed}
 use Rattle.package_json.proofs.unless_closed.Goals as goal

@@ -1,10 +1,8 @@
 use mathlib.Core.Path.{sym, ◌∙◌}
 use Prim.Native.Nat.{◌-◌}
-use borrow.Author.Rules.{rules}
 use Rattle.json_string.proofs.Rules.{here, past}
 use Rattle.package_json.proofs.Walks.{rest_some, rest_none}
 use Rattle.definition.specs.JsonAt.{value_end}
-use Rattle.definition.specs.Json.{value}
 use borrow.Author.Tests.{eq-eqb, ne_eqb}
 use Rattle.package_json.proofs.value_end.Goals as goal
 

@@ -1,8 +1,7 @@
 use mathlib.Core.Path.{sym, ◌∙◌}
 use mathlib.Core.Bool.{and-false}
-use borrow.Author.Tests.{not-true, not-false, lt-leb, le-leb}
+use borrow.Author.Tests.{lt-leb, le-leb}
 use Rattle.definition.specs.Specifier.{is_specifier}
-use borrow.Author.Rules.{rules}
 use Rattle.package_name.proofs.check.Goals as goal
 
 pub returns-then-s-gt512 : goal.returns-then-s-gt512
@@ -11,7 +10,7 @@ returns-then-s-gt512 c = simp (lt-leb _ _ c.if-s-gt512.true, and-false)
 
 pub returns-then-not-is_bare : goal.returns-then-not-is_bare
 unfolding is_specifier
-returns-then-not-is_bare c = rw (sym c.is_bare.ensures ∙ not-true _ c.if-not-is_bare.true)
+returns-then-not-is_bare c = rw (sym c.is_bare.ensures ∙ c.if-not-is_bare.true)
 
 pub returns-then-contains : goal.returns-then-contains
 unfolding is_specifier
@@ -19,4 +18,4 @@ returns-then-contains c = simp (sym c.contains.ensures ∙ c.if-contains.true, a
 
 pub returns : goal.returns
 unfolding is_specifier
-returns c = simp (le-leb _ _ c.if-s-gt512.false, sym c.is_bare.ensures ∙ not-false _ c.if-not-is_bare.false, sym c.contains.ensures ∙ c.if-contains.false) c.is_utf8.ensures
+returns c = simp (le-leb _ _ c.if-s-gt512.false, sym c.is_bare.ensures ∙ c.if-not-is_bare.false, sym c.contains.ensures ∙ c.if-contains.false) c.is_utf8.ensures

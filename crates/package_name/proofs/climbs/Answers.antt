@@ -1,6 +1,5 @@
 use mathlib.Core.Path.{◌∙◌, ap}
 use Rattle.definition.specs.Text.{text, equal}
-use borrow.Author.Rules.{rules}
 use Rattle.package_name.proofs.climbs.Goals as goal
 
 pub returns : goal.returns

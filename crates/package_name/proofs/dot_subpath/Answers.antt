@@ -3,7 +3,6 @@ use native.Mathlib.Omega.{arith}
 use lib.ListN.{length}
 use Rattle.package_name.proofs.Parts.{dotted, undotted, overwrite_front}
 use Rattle.definition.specs.Text.{overwrite}
-use borrow.Author.Rules.{rules}
 use Rattle.package_name.proofs.dot_subpath.Goals as goal
 
 pub returns-then-starts_with : goal.returns-then-starts_with

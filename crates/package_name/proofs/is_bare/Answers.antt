@@ -4,7 +4,6 @@ use lib.Seq.{length-take-le}
 use Rattle.definition.specs.Text.{slash}
 use Rattle.laws.specs.TextSteps.{first_inside}
 use Rattle.package_name.proofs.Bare.{none, root, hash, dot, dots, yes}
-use borrow.Author.Rules.{rules}
 use Rattle.package_name.proofs.is_bare.Goals as goal
 
 pub returns-then-s-eq0 : goal.returns-then-s-eq0

@@ -1,5 +1,4 @@
 use mathlib.Core.Path.{sym, ◌∙◌}
-use borrow.Author.Rules.{rules}
 use Rattle.package_name.proofs.may_climb.Goals as goal
 
 pub returns-then-contains_text : goal.returns-then-contains_text

@@ -1,4 +1,3 @@
-use borrow.Author.Rules.{rules}
 use Rattle.laws.specs.SpecifierLaws.{name_whole, name_plain, name_scoped}
 use Rattle.package_name.proofs.name_end.Goals as goal
 

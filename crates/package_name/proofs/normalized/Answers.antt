@@ -1,7 +1,6 @@
 -- `normalized`: a "/" at the end of the specifier is put behind what `normalize_relative` gives.
 use mathlib.Core.Path.{sym, ◌∙◌}
 use Rattle.package_name.proofs.Climb.{slash_kept, no_slash}
-use borrow.Author.Rules.{rules}
 use Rattle.package_name.proofs.normalized.Goals as goal
 
 pub returns-then-ends_with : goal.returns-then-ends_with

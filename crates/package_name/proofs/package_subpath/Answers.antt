@@ -1,4 +1,3 @@
-use borrow.Author.Rules.{rules}
 use native.Mathlib.Omega.{arith}
 use Rattle.definition.specs.Specifier.{package_subpath}
 use Rattle.laws.specs.TextSteps.{part_rest}

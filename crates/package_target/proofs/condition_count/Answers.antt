@@ -1,11 +1,6 @@
 -- The number of conditions is at most their count, a byte.
 use native.Mathlib.Omega.{arith}
 use Rattle.package_target.proofs.Conditions.{counted, none_counted}
-use borrow.Author.Rules.{rules}
-use Rattle.package_target.proofs.condition_count.Reads as reads
-use Rattle.package_target.proofs.condition_count.Lts as lts
-use Rattle.package_target.proofs.wide.Reads as wide-reads
-use Rattle.settings.proofs.count.Reads as count-reads
 use Rattle.package_target.proofs.condition_count.Goals as goal
 
 pub returns-then-settings-eq0 : goal.returns-then-settings-eq0

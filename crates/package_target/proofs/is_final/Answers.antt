@@ -1,4 +1,3 @@
-use borrow.Author.Rules.{rules}
 use Rattle.package_target.proofs.is_final.Goals as goal
 
 pub returns-in-Found : goal.returns-in-Found

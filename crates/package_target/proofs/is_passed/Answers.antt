@@ -1,4 +1,3 @@
-use borrow.Author.Rules.{rules}
 use mathlib.Core.Path.{sym, ◌∙◌}
 use Rattle.package_target.proofs.Loops.{passed_nothing, passed_final, passed_other}
 use Rattle.package_target.proofs.is_passed.Goals as goal

@@ -1,4 +1,3 @@
-use borrow.Author.Rules.{rules}
 use mathlib.Core.Path.{ap}
 use Rattle.definition.specs.JsonAt.{a_scalar, a_string, an_array, an_object}
 use Rattle.package_json.specs.Cursors as cursors

@@ -1,21 +1,8 @@
 -- The values so far are those of the members that were passed (`Gathering`).
-use native.Mathlib.Omega.{arith}
-use borrow.Author.Rules.{rules}
-use mathlib.Core.Path.{◌≡◌, ◌∙◌, ap}
-use Prim.Native.Nat.{ℕ, suc}
+use mathlib.Core.Path.{◌∙◌, ap}
 use lib.ListN.{length, length-replicate}
-use Rattle.definition.specs.Json.{Members, obj}
-use Rattle.definition.specs.Settings.{texts_of}
-use Rattle.package_target.specs.Places.{Written}
 use Rattle.package_target.proofs.Conditions.{put_size}
-use Rattle.package_target.proofs.Gathering.{Gathering, gather_begin, gather_end, gather_on, gather_over}
-use Rattle.package_target.proofs.last_values.Reads as reads
-use Rattle.package_target.proofs.last_values.Lts as lts
-use Rattle.package_json.proofs.first_member.Reads as first-member-reads
-use Rattle.package_json.proofs.next_element.Reads as next-element-reads
-use Rattle.package_target.proofs.condition_at.Reads as condition-at-reads
-use Rattle.package_target.proofs.put_value.Reads as put-value-reads
-use Rattle.package_target.proofs.value_at.Reads as value-at-reads
+use Rattle.package_target.proofs.Gathering.{gather_begin, gather_end, gather_on, gather_over}
 use Rattle.package_target.proofs.last_values.Goals as goal
 
 pub loop-left-init : goal.loop-left-init
@@ -34,7 +21,7 @@ loop-left-preserved c =
     let index = c.condition_at-k in
     let put = c.put_value in (
       put_size loop.values put.new.0 index.result value.result put.ensures loop.invariant.0,
-      λ d ms h. gather_on (loop.invariant.1 d ms h) c.in-At.is value.result value.ensures index.result index.ensures.1 _ put.ensures loop.invariant.0 c.next_element-cursor.result c.next_element-cursor.ensures,
+      λ d ms h. gather_on (loop.invariant.1 d ms h) c.in-At.is value.result value.ensures index.result index.ensures.by_index _ put.ensures loop.invariant.0 c.next_element-cursor.result c.next_element-cursor.ensures,
     )
 
 pub returns : goal.returns

@@ -1,20 +1,10 @@
-use native.Mathlib.Omega.{arith}
-use borrow.Author.Rules.{rules}
-use mathlib.Core.Path.{◌≡◌, ◌∙◌, ap}
+use mathlib.Core.Path.{◌≡◌}
 use Prim.Native.Nat.{ℕ, suc}
-use lib.ListN.{length, length-replicate}
+use lib.ListN.{length}
 use Rattle.definition.specs.Json.{Members, obj}
 use Rattle.definition.specs.Settings.{texts_of}
 use Rattle.package_target.specs.Places.{Written}
-use Rattle.package_target.proofs.Conditions.{put_size}
-use Rattle.package_target.proofs.Gathering.{Gathering, gather_begin, gather_end, gather_on, gather_over}
-use Rattle.package_target.proofs.last_values.Reads as reads
-use Rattle.package_target.proofs.last_values.Lts as lts
-use Rattle.package_json.proofs.first_member.Reads as first-member-reads
-use Rattle.package_json.proofs.next_element.Reads as next-element-reads
-use Rattle.package_target.proofs.condition_at.Reads as condition-at-reads
-use Rattle.package_target.proofs.put_value.Reads as put-value-reads
-use Rattle.package_target.proofs.value_at.Reads as value-at-reads
+use Rattle.package_target.proofs.Gathering.{Gathering}
 use Rattle.package_target.proofs.last_values.Given as goal
 
 abbrev pub invariant-loop-left : goal.invariant-loop-left

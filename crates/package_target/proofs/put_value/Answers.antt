@@ -1,8 +1,5 @@
 -- Below 256 one element is set.
 use borrow.Author.Tests.{lt-ltb, le-ltb}
-use borrow.Author.Rules.{rules}
-use Rattle.package_target.proofs.put_value.Reads as reads
-use Rattle.package_target.proofs.put_value.Lts as lts
 use Rattle.package_target.proofs.put_value.Goals as goal
 
 pub returns-then-k-lt-CONDITIONS : goal.returns-then-k-lt-CONDITIONS

@@ -1,4 +1,3 @@
-use borrow.Author.Rules.{rules}
 use mathlib.Core.Path.{sym, ◌∙◌, ap}
 use Rattle.definition.specs.Specifier.{parse_specifier}
 use Rattle.definition.specs.Exports.{string_target}

@@ -1,4 +1,3 @@
-use borrow.Author.Rules.{rules}
 use mathlib.Core.Path.{sym, ◌∙◌, ap}
 use Rattle.package_json.specs.Cursors.{placed}
 use Rattle.package_target.proofs.Places.{no_value, value_is}

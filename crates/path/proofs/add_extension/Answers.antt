@@ -1,5 +1,4 @@
 -- `add_extension` is the chain: the path within the limit, then the extension.
-use borrow.Author.Rules.{rules}
 use mathlib.Core.Path.{◌∙◌}
 use Rattle.path.proofs.add_extension.Goals as goal
 

@@ -1,5 +1,4 @@
 -- `add_name_and_extension` is the chain: three texts behind the path, each within the limit.
-use borrow.Author.Rules.{rules}
 use mathlib.Core.Path.{◌∙◌}
 use Rattle.definition.specs.Path.{limited}
 use Rattle.path.proofs.Steps.{put_three}

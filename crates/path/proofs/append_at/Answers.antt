@@ -1,6 +1,5 @@
 -- `append_at` is `put`: an array has its length.
-use borrow.Author.Rules.{rules}
 use Rattle.path.proofs.append_at.Goals as goal
 
 pub returns : goal.returns
-returns c = c.put.ensures.1
+returns c = c.put.ensures.result_after

@@ -3,7 +3,6 @@ use mathlib.Core.Bool.{and-false}
 use native.Mathlib.Omega.{arith}
 use borrow.Author.Tests.{eq-eqb, ne_eqb}
 use Rattle.laws.specs.SpecifierLaws.{starts_at, starts_not, starts_end}
-use borrow.Author.Rules.{rules}
 use Rattle.path.proofs.is_escape.Goals as goal
 
 pub returns-then-s-i-ne0 : goal.returns-then-s-i-ne0

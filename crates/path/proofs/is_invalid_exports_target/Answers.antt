@@ -1,12 +1,10 @@
 use borrow.Author.Rules.{rules}
 use native.Mathlib.Omega.{arith}
-use mathlib.Core.Path.{◌≡◌, sym, ◌∙◌}
-use Prim.Native.Nat.{◌-◌, ◌≤◌}
-use lib.ListN.{length, drop}
+use mathlib.Core.Path.{sym, ◌∙◌}
+use Prim.Native.Nat.{◌-◌}
 use Rattle.definition.specs.Text.{slash}
-use Rattle.definition.specs.Path.{any_invalid, is_invalid_exports_target}
 use Rattle.laws.specs.TextSteps.{first_inside}
-use Rattle.laws.specs.PathLaws.{parts, invalid_parts}
+use Rattle.laws.specs.PathLaws.{invalid_parts}
 use Rattle.path.proofs.Parts.{invalid_here, invalid_last, invalid_more}
 use Rattle.path.proofs.is_invalid_exports_target.Goals as goal
 

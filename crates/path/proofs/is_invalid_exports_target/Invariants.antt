@@ -1,13 +1,8 @@
-use borrow.Author.Rules.{rules}
-use native.Mathlib.Omega.{arith}
-use mathlib.Core.Path.{◌≡◌, sym, ◌∙◌}
+use mathlib.Core.Path.{◌≡◌}
 use Prim.Native.Nat.{◌-◌, ◌≤◌}
 use lib.ListN.{length, drop}
-use Rattle.definition.specs.Text.{slash}
 use Rattle.definition.specs.Path.{any_invalid, is_invalid_exports_target}
-use Rattle.laws.specs.TextSteps.{first_inside}
-use Rattle.laws.specs.PathLaws.{parts, invalid_parts}
-use Rattle.path.proofs.Parts.{invalid_here, invalid_last, invalid_more}
+use Rattle.laws.specs.PathLaws.{parts}
 use Rattle.path.proofs.is_invalid_exports_target.Given as goal
 
 abbrev pub invariant-loop-at : goal.invariant-loop-at

@@ -1,4 +1,3 @@
-use borrow.Author.Rules.{rules}
 use mathlib.Core.Path.{sym, ◌∙◌}
 use Rattle.path.proofs.Parts.{invalid_up, invalid_name}
 use Rattle.path.proofs.is_invalid_part.Goals as goal

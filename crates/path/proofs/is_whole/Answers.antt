@@ -1,5 +1,4 @@
 -- `is_whole`: an empty subpath by its length, any other by its first byte.
-use borrow.Author.Rules.{rules}
 use Rattle.path.proofs.Parts.{whole_empty, whole_first}
 use Rattle.path.proofs.is_whole.Goals as goal
 

@@ -1,5 +1,4 @@
 -- `join` is what `slash` gives with the part behind it.
-use borrow.Author.Rules.{rules}
 use mathlib.Core.Path.{sym, ◌∙◌}
 use Rattle.path.specs.Meaning.{path_at}
 use Rattle.path.proofs.Steps.{push_put}
@@ -7,13 +6,13 @@ use Rattle.path.proofs.join.Goals as goal
 
 pub shape_of-b : goal.shape_of-b
 shape_of-b c =
-    c.put.ensures.0
+    c.put.ensures.b_len
     ∙ sym c.requires
 
 pub returns : goal.returns
 returns c =
-    c.put.ensures.1
-    ∙ rw c.slash-m.ensures.1
+    c.put.ensures.result_after
+    ∙ rw c.slash-m.ensures.result_after
     (push_put
     (path_at
     c.args.b.now

@@ -1,5 +1,4 @@
 -- `manifest_path` is the chain: the directory within the limit, then package.json.
-use borrow.Author.Rules.{rules}
 use mathlib.Core.Path.{◌∙◌}
 use Rattle.definition.specs.Path.{manifest_of}
 use Rattle.path.proofs.manifest_path.Goals as goal

@@ -1,4 +1,3 @@
-use borrow.Author.Rules.{rules}
 use mathlib.Core.Path.{sym}
 use Rattle.path.proofs.Steps.{name_all, name_rest}
 use Rattle.path.proofs.name_of.Goals as goal

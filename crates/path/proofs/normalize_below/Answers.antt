@@ -1,5 +1,4 @@
 -- `normalize_below`: "./" in front of a subpath adds no part.
-use borrow.Author.Rules.{rules}
 use mathlib.Core.Path.{sym, ◌∙◌}
 use Rattle.path.proofs.Parts.{with_dot}
 use Rattle.path.proofs.normalize_below.Goals as goal

@@ -1,5 +1,4 @@
 -- `normalize_relative`: the parts behind "/", or all of them, are pushed; they make the path no longer, so it has room for them.
-use borrow.Author.Rules.{rules}
 use native.Mathlib.Omega.{arith}
 use mathlib.Core.Path.{◌≡◌, ◌∙◌, ap}
 use Prim.Native.Nat.{◌-◌}

@@ -1,5 +1,4 @@
 -- `normalize_with`: a subpath that is empty or absolute, and any other, which is pushed part by part.
-use borrow.Author.Rules.{rules}
 use mathlib.Core.Path.{sym, ◌∙◌}
 use Rattle.path.proofs.Parts.{with_whole, with_relative}
 use Rattle.path.proofs.normalize_with.Goals as goal

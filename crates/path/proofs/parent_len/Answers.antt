@@ -1,4 +1,3 @@
-use borrow.Author.Rules.{rules}
 use native.Mathlib.Omega.{arith}
 use Rattle.path.proofs.Steps.{parent_nothing, parent_slash, parent_front}
 use Rattle.path.proofs.parent_len.Goals as goal

@@ -1,5 +1,4 @@
 -- `push_at` is `join`: an array has its length.
-use borrow.Author.Rules.{rules}
 use Rattle.path.proofs.push_at.Goals as goal
 
 pub returns : goal.returns

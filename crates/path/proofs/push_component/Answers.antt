@@ -1,4 +1,3 @@
-use borrow.Author.Rules.{rules}
 use mathlib.Core.Path.{sym, ◌∙◌}
 use Rattle.laws.specs.PathLaws.{component_empty, component_dot, component_name}
 use Rattle.path.proofs.Parts.{push_none, push_up, push_name}

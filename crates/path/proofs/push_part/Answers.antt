@@ -1,6 +1,5 @@
 -- Where ".." pops, it goes as `push_component`.
-use borrow.Author.Rules.{rules}
-use borrow.Author.Tests.{not-true, not-false}
+use borrow.Author.Tests.{not-false}
 use mathlib.Core.Path.{sym, ◌∙◌, ap}
 use mathlib.Core.Bool.{true≢false}
 use mathlib.Core.Logic.{⊎_elim}
@@ -10,10 +9,8 @@ use Rattle.path.proofs.push_part.Goals as goal
 
 pub returns-then-not-pops : goal.returns-then-not-pops
 returns-then-not-pops c =
-    let w = c in
-    let p = c in
-    part_stays _ _ _ _ w.if1.true (sym c.equal.ensures ∙ c.if-equal.true)
-    (sym (p.pops.ensures ∙ ap pops p.before.first.ensures) ∙ not-true _ c.if-not-pops.true)
+    part_stays _ _ _ _ c.if-stays.true (sym c.equal.ensures ∙ c.if-equal.true)
+    (sym (c.pops.ensures ∙ ap pops c.first.ensures) ∙ c.if-not-pops.true)
     c.push_at.ensures
 
 pub returns : goal.returns

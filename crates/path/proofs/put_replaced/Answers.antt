@@ -2,12 +2,11 @@
 use native.Mathlib.Omega.{arith}
 use borrow.Author.Rules.{rules}
 use mathlib.Core.Path.{refl}
-use Prim.Native.Nat.{◌-◌, ◌≤◌}
-use lib.ListN.{length}
+use Prim.Native.Nat.{◌-◌}
 use Rattle.definition.specs.Text.{star}
 use Rattle.laws.specs.TextSteps.{first_inside}
 use Rattle.path.specs.Meaning.{path_at}
-use Rattle.path.proofs.Stars.{Filled, fill_last, fill_more}
+use Rattle.path.proofs.Stars.{fill_last, fill_more}
 use Rattle.path.proofs.put_replaced.Goals as goal
 
 pub loop-from-init : goal.loop-from-init
@@ -18,17 +17,15 @@ slice_bounds-append_at-end c = first_inside star _ _ _ c.find-e.ensures c.loop-f
 
 pub returns-then-e-t : goal.returns-then-e-t
 returns-then-e-t c =
-    let l = c in
-    let a = l.before.before.before.args in
+    let a = c.args in
     fill_last a.pattern.now a.t.now _ _ c.find-e.ensures (path_at a.b.now a.from)
-    (path_at l.loop.b l.loop.n) _ c.append_at-n.ensures l.loop.invariant.1 c.if-e-t.true
+    (path_at c.loop-from.b c.loop-from.n) _ c.append_at-n.ensures c.loop-from.invariant.1 c.if-e-t.true
 
 pub loop-from-preserved : goal.loop-from-preserved
 loop-from-preserved c =
-    let l = c in
-    let a = l.before.before.before.args in (
+    let a = c.args in (
       omega arith,
       fill_more a.pattern.now a.t.now _ _ c.find-e.ensures (path_at a.b.now a.from)
-          (path_at l.loop.b l.loop.n) _ c.append_at-n.ensures l.loop.invariant.1 c.if-e-t.false _
+          (path_at c.loop-from.b c.loop-from.n) _ c.append_at-n.ensures c.loop-from.invariant.1 c.if-e-t.false _
           c.append_at-n-in-loop-from.ensures,
     )

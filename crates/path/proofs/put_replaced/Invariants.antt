@@ -1,12 +1,7 @@
-use native.Mathlib.Omega.{arith}
-use borrow.Author.Rules.{rules}
-use mathlib.Core.Path.{refl}
 use Prim.Native.Nat.{◌-◌, ◌≤◌}
 use lib.ListN.{length}
-use Rattle.definition.specs.Text.{star}
-use Rattle.laws.specs.TextSteps.{first_inside}
 use Rattle.path.specs.Meaning.{path_at}
-use Rattle.path.proofs.Stars.{Filled, fill_last, fill_more}
+use Rattle.path.proofs.Stars.{Filled}
 use Rattle.path.proofs.put_replaced.Given as goal
 
 abbrev pub invariant-loop-from : goal.invariant-loop-from

@@ -1,24 +1,23 @@
 -- `path::put_unescaped` meets its contract, by the laws of `Widening`.
 use Prim.Native.Nat.{◌-◌}
-use mathlib.Core.Logic.{⊎_elim}
 use mathlib.Core.Path.{sym, ◌∙◌}
-use lib.ListN.{length}
-use borrow.Author.Rules.{rules}
 use borrow.Author.Tests.{not-true, not-false}
-use Rattle.path.specs.Meaning.{path_at}
-use Rattle.path.proofs.Widening.{Widening, widening_begin, widening_end, widening_skip, widening_on}
+use Rattle.path.proofs.Widening.{widening_begin, widening_end, widening_skip, widening_on}
 use Rattle.path.proofs.put_unescaped.Goals as goal
+use Rattle.path.proofs.put_unescaped.Goals.{else-not-skip, then-not-skip}
 
 pub loop-i-init : goal.loop-i-init
 loop-i-init c = widening_begin _ _ _
 
 pub loop-i-preserved : goal.loop-i-preserved
 loop-i-preserved c =
-    ⊎_elim (λ w. rw (w.4, w.5)
-    (widening_on c.loop-i.invariant c.loop-i-test.true (sym c.is_escape-skip.ensures
-    ∙ not-true _ w.0.taken) w.3.ensures))
-    (λ w. rw (w.1, w.2) (widening_skip c.loop-i.invariant c.loop-i-test.true
-    (sym c.is_escape-skip.ensures ∙ not-false _ w.0.left))) c.if-not-skip.branch
+    elim c.if-not-skip.branch [
+      | then-not-skip w ↦ rw (w.4, w.5)
+          (widening_on c.loop-i.invariant c.loop-i-test.true (sym c.is_escape-skip.ensures
+          ∙ not-true _ w.if-not-skip.true) w.3.ensures)
+      | else-not-skip w ↦ rw (w.1, w.2) (widening_skip c.loop-i.invariant c.loop-i-test.true
+          (sym c.is_escape-skip.ensures ∙ not-false _ w.if-not-skip.false))
+    ]
 
 pub returns : goal.returns
 returns c = widening_end c.loop-i.invariant c.loop-i-test.false

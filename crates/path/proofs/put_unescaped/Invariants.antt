@@ -1,11 +1,7 @@
 use Prim.Native.Nat.{◌-◌}
-use mathlib.Core.Logic.{⊎_elim}
-use mathlib.Core.Path.{sym, ◌∙◌}
 use lib.ListN.{length}
-use borrow.Author.Rules.{rules}
-use borrow.Author.Tests.{not-true, not-false}
 use Rattle.path.specs.Meaning.{path_at}
-use Rattle.path.proofs.Widening.{Widening, widening_begin, widening_end, widening_skip, widening_on}
+use Rattle.path.proofs.Widening.{Widening}
 use Rattle.path.proofs.put_unescaped.Given as goal
 
 abbrev pub invariant-loop-i : goal.invariant-loop-i

@@ -1,4 +1,3 @@
-use borrow.Author.Rules.{rules}
 use Rattle.path.proofs.Parts.{root_empty, root_slash, root_none}
 use Rattle.path.proofs.root.Goals as goal
 

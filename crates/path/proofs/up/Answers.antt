@@ -1,4 +1,3 @@
-use borrow.Author.Rules.{rules}
 use Rattle.path.proofs.Steps.{up_over, up_parent}
 use Rattle.path.proofs.up.Goals as goal
 

@@ -3,7 +3,6 @@ use native.Mathlib.Omega.{arith}
 use mathlib.Core.Path.{◌∙◌, ap}
 use Rattle.definition.specs.Ask.{asked}
 use Rattle.questions.proofs.Questions.{done_asked, not_asked}
-use borrow.Author.Rules.{rules}
 use Rattle.questions.proofs.consult.Goals as goal
 
 pub returns-then-m-eq0 : goal.returns-then-m-eq0

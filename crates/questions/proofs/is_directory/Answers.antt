@@ -1,6 +1,5 @@
 -- `questions::is_directory` meets its contract, by the laws of `Questions`.
 use Rattle.questions.proofs.Questions.{told}
-use borrow.Author.Rules.{rules}
 use Rattle.questions.proofs.is_directory.Goals as goal
 
 pub returns : goal.returns

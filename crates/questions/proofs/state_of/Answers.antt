@@ -1,5 +1,4 @@
 use Rattle.definition.specs.Ask.{asked, number, state_of}
-use borrow.Author.Rules.{rules}
 use Rattle.questions.proofs.state_of.Goals as goal
 
 pub returns-in-Absent : goal.returns-in-Absent

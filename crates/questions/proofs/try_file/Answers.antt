@@ -1,7 +1,6 @@
 -- `questions::try_file` meets its contract, by the laws of `consults::Steps` and `Questions`.
 use Rattle.consults.proofs.Steps.{ends_found, done_finish}
 use Rattle.questions.proofs.Questions.{done_is_file, file_unknown, try_missing, try_found}
-use borrow.Author.Rules.{rules}
 use Rattle.questions.proofs.try_file.Goals as goal
 
 pub returns-in_default : goal.returns-in_default

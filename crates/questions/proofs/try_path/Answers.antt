@@ -1,5 +1,4 @@
 use Rattle.questions.proofs.Questions.{path_long, path_fits}
-use borrow.Author.Rules.{rules}
 use Rattle.questions.proofs.try_path.Goals as goal
 
 pub returns-then-n-gt2048 : goal.returns-then-n-gt2048

@@ -1,6 +1,5 @@
 -- The two tests stand in the order of the definition's.
 use mathlib.Core.Path.{sym, ◌∙◌}
-use borrow.Author.Rules.{rules}
 use Rattle.relative.proofs.is_folder.Goals as goal
 
 pub returns-then-equal : goal.returns-then-equal

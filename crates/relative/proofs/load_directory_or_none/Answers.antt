@@ -2,7 +2,6 @@
 use Rattle.definition.specs.Walk.{bare}
 use Rattle.directory.proofs.Rooms.{was_done, enough}
 use Rattle.relative.proofs.Steps.{directory_found, none_found}
-use borrow.Author.Rules.{rules}
 use Rattle.relative.proofs.load_directory_or_none.Goals as goal
 
 pub returns-in_default : goal.returns-in_default

@@ -2,7 +2,6 @@
 use mathlib.Core.Path.{sym, ◌∙◌}
 use Rattle.definition.specs.Walk.{bare}
 use Rattle.relative.proofs.Steps.{file_skipped, file_tried}
-use borrow.Author.Rules.{rules}
 use Rattle.relative.proofs.load_unless_folder.Goals as goal
 
 pub returns-then-is_folder : goal.returns-then-is_folder

@@ -1,7 +1,6 @@
 -- The path is built, then 3.a, 3.b and c come in turn.
 use Rattle.directory.proofs.Rooms.{is_done, is_refused_lem, enough, too_little}
 use Rattle.relative.proofs.Steps.{relative_long, relative_file, relative_directory}
-use borrow.Author.Rules.{rules}
 use Rattle.relative.proofs.require_relative.Goals as goal
 
 pub returns-then-work-lt1024 : goal.returns-then-work-lt1024

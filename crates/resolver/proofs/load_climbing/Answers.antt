@@ -3,7 +3,6 @@ use mathlib.Core.Path.{◌∙◌}
 use borrow.Author.Tests.{not-true, not-false}
 use Rattle.directory.proofs.Rooms.{was_done, fits}
 use Rattle.resolver.proofs.Lookups.{stays, stays_inside, climbs_out, normalized_here, climbing_subpath}
-use borrow.Author.Rules.{rules}
 use Rattle.resolver.proofs.load_climbing.Goals as goal
 
 pub returns-then-not-may_climb : goal.returns-then-not-may_climb

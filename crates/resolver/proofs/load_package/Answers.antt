@@ -5,7 +5,6 @@ use Rattle.laws.specs.FitLaws.{subpath_short}
 use Rattle.directory.proofs.Rooms.{was_done, fits}
 use Rattle.consults.proofs.Ways.{way_passed, way_onward}
 use Rattle.resolver.specs.Routines.{load_package}
-use borrow.Author.Rules.{rules}
 use Rattle.resolver.proofs.load_package.Goals as goal
 
 pub returns-in_default : goal.returns-in_default

@@ -1,5 +1,4 @@
 use Rattle.resolver.proofs.Lookups.{lookup_ended, lookup_none}
-use borrow.Author.Rules.{rules}
 use Rattle.resolver.proofs.walk.Goals as goal
 
 pub returns-in-Next : goal.returns-in-Next

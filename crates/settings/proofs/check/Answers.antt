@@ -1,13 +1,11 @@
 -- The texts passed are in order, and what is left starts at `at`: what a text breaks, or the length, breaks the whole.
 use mathlib.Core.Path.{◌≡◌, sym, ◌∙◌, ap}
 use mathlib.Core.Bool.{true}
-use Prim.Native.Nat.{ℕ, ◌-◌, ◌≤◌, ◌<◌}
+use Prim.Native.Nat.{◌-◌}
 use native.Mathlib.Omega.{arith}
 use lib.Dec.{eqb}
 use lib.ListN.{length}
 use borrow.Author.Count.{below_more}
-use borrow.Author.Rules.{rules}
-use borrow.Author.Tests.{not-true, not-false}
 use Rattle.definition.specs.Settings.{count_before, sum}
 use Rattle.laws.specs.SettingsLaws.{text_passes, refused_counts, refused_length, refused_text, texts_length}
 use Rattle.settings.proofs.Steps.{start_of, start_next, too_long, passes_here, all_read}
@@ -15,7 +13,7 @@ use Rattle.settings.proofs.check.Goals as goal
 
 pub returns-then-not-counts_pass : goal.returns-then-not-counts_pass
 unfolding sum
-returns-then-not-counts_pass c = sym (refused_counts _ (sym c.counts_pass.ensures ∙ not-true _ c.if-not-counts_pass.true))
+returns-then-not-counts_pass c = sym (refused_counts _ (sym c.counts_pass.ensures ∙ c.if-not-counts_pass.true))
 
 pub returns-then-s-total : goal.returns-then-s-total
 unfolding sum
@@ -37,7 +35,7 @@ returns-then-not-text_passes c =
     let h = c.loop-i-test.true in
     sym (refused_text s l.i (omega (arith, texts_length s))
     (sym (passes_here s l.i (omega arith) _ _ _ _ l.invariant.1 c.byte-n.ensures.0
-    c.is_extension.ensures c.text_passes.ensures) ∙ not-true _ c.if-not-text_passes.true))
+    c.is_extension.ensures c.text_passes.ensures) ∙ c.if-not-text_passes.true))
 
 pub loop-i-preserved : goal.loop-i-preserved
 unfolding sum
@@ -50,7 +48,7 @@ loop-i-preserved c =
       omega arith,
       below_more _ _ l.invariant.3
           (sym (passes_here s l.i (omega arith) _ _ _ _ l.invariant.1 c.byte-n.ensures.0
-          c.is_extension.ensures c.text_passes.ensures) ∙ not-false _ c.if-not-text_passes.false),
+          c.is_extension.ensures c.text_passes.ensures) ∙ c.if-not-text_passes.false),
     )
 
 pub returns : goal.returns
@@ -60,5 +58,5 @@ returns c =
     let l = c.loop-i in
     let e : l.i ≡ count_before s 6 = omega arith in
     ap (λ n. eqb n (length s)) (l.invariant.1 ∙ ap (start_of s) e)
-    ∙ all_read s (sym c.counts_pass.ensures ∙ not-false _ c.if-not-counts_pass.false) (omega arith)
+    ∙ all_read s (sym c.counts_pass.ensures ∙ c.if-not-counts_pass.false) (omega arith)
     (λ k h. l.invariant.3 k (omega arith))

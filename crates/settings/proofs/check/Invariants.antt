@@ -1,15 +1,9 @@
-use mathlib.Core.Path.{◌≡◌, sym, ◌∙◌, ap}
+use mathlib.Core.Path.{◌≡◌}
 use mathlib.Core.Bool.{true}
 use Prim.Native.Nat.{ℕ, ◌-◌, ◌≤◌, ◌<◌}
-use native.Mathlib.Omega.{arith}
-use lib.Dec.{eqb}
 use lib.ListN.{length}
-use borrow.Author.Count.{below_more}
-use borrow.Author.Rules.{rules}
-use borrow.Author.Tests.{not-true, not-false}
-use Rattle.definition.specs.Settings.{count_before, sum}
-use Rattle.laws.specs.SettingsLaws.{text_passes, refused_counts, refused_length, refused_text, texts_length}
-use Rattle.settings.proofs.Steps.{start_of, start_next, too_long, passes_here, all_read}
+use Rattle.laws.specs.SettingsLaws.{text_passes}
+use Rattle.settings.proofs.Steps.{start_of}
 use Rattle.settings.proofs.check.Given as goal
 
 abbrev pub invariant-loop-i : goal.invariant-loop-i

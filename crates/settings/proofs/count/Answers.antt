@@ -1,5 +1,4 @@
 use mathlib.Core.Path.{◌∙◌}
-use borrow.Author.Rules.{rules}
 use Rattle.settings.proofs.Steps.{count_here}
 use Rattle.settings.proofs.count.Goals as goal
 

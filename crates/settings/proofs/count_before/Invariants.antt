@@ -1,9 +1,6 @@
-use mathlib.Core.Path.{◌≡◌, refl}
+use mathlib.Core.Path.{◌≡◌}
 use Prim.Native.Nat.{◌-◌, ◌*◌, ◌≤◌}
-use native.Mathlib.Numerals.{add-one}
-use native.Mathlib.Omega.{arith}
-use borrow.Author.Rules.{rules}
-use Rattle.definition.specs.Settings.{count_of, count_before}
+use Rattle.definition.specs.Settings.{count_before}
 use Rattle.settings.proofs.count_before.Given as goal
 
 abbrev pub invariant-loop-i : goal.invariant-loop-i

@@ -1,7 +1,6 @@
 -- `settings::counts_pass` meets its contract, by the laws of `laws::SettingsLaws`.
 use native.Mathlib.Omega.{arith}
 use lib.ListN.{get_or}
-use borrow.Author.Rules.{rules}
 use borrow.Author.Tests.{le-leb, lt-leb}
 use Rattle.definition.specs.Settings.{count_of}
 use Rattle.laws.specs.SettingsLaws.{counts_pass}

@@ -1,9 +1,6 @@
-use mathlib.Core.Path.{◌≡◌, ◌∙◌, ap}
+use mathlib.Core.Path.{◌≡◌}
 use Prim.Native.Nat.{◌+◌, ◌-◌, ◌*◌, ◌≤◌}
-use native.Mathlib.Omega.{arith}
-use borrow.Author.Rules.{rules}
-use Rattle.settings.proofs.Steps.{start_of, start_next}
-use Rattle.definition.specs.Settings.{sum}
+use Rattle.settings.proofs.Steps.{start_of}
 use Rattle.settings.proofs.start.Given as goal
 
 abbrev pub invariant-loop-i : goal.invariant-loop-i

@@ -1,6 +1,5 @@
 use mathlib.Core.Path.{sym, ◌∙◌}
 use native.Mathlib.Omega.{arith}
-use borrow.Author.Rules.{rules}
 use Rattle.definition.specs.Settings.{count_of}
 use Rattle.laws.specs.SettingsLaws.{kind_inside, text_none}
 use Rattle.settings.proofs.Steps.{text_found}

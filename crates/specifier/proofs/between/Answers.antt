@@ -1,6 +1,5 @@
 use mathlib.Core.Path.{◌∙◌, ap}
 use lib.ListN.{drop}
-use borrow.Author.Rules.{rules}
 use Rattle.specifier.proofs.between.Goals as goal
 
 pub returns : goal.returns

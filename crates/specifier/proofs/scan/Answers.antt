@@ -1,8 +1,5 @@
 use Prim.Native.Nat.{◌-◌}
-use mathlib.Core.Logic.{⊎_elim}
-use lib.ListN.{length}
-use borrow.Author.Rules.{rules}
-use Rattle.specifier.proofs.Fragment.{Scan, scan_none, scan_begin, scan_end, scan_fragment, scan_escape, scan_other}
+use Rattle.specifier.proofs.Fragment.{scan_none, scan_begin, scan_end, scan_fragment, scan_escape, scan_other}
 use Rattle.specifier.proofs.scan.Goals as goal
 use Rattle.specifier.proofs.scan.Goals.{else-b-eq35, then-b-eq35}
 

@@ -3,7 +3,6 @@ use Prim.Native.Nat.{ℕ, ◌-◌, ◌≤◌}
 use mathlib.Core.List.{List}
 use lib.ListN.{length, drop, take, drop_of_length-le}
 use lib.Seq.{drop-length}
-use borrow.Author.Rules.{rules}
 use Rattle.laws.specs.TextSteps.{part_rest}
 use Rattle.specifier.proofs.tail.Goals as goal
 

@@ -1,5 +1,4 @@
 -- `unescaped` is the chain: the text, unescaped, behind an empty path.
-use borrow.Author.Rules.{rules}
 use mathlib.Core.Path.{◌∙◌}
 use Rattle.definition.specs.Path.{add_extension}
 use Rattle.specifier.proofs.unescaped.Goals as goal

@@ -1,5 +1,4 @@
 -- `targets::folder_target` meets its contract, by the laws of `Targets`.
-use borrow.Author.Rules.{rules}
 use mathlib.Core.Path.{◌∙◌, ap}
 use mathlib.Core.List.{◌++◌}
 use Rattle.targets.specs.Answers.{resolved}

@@ -1,4 +1,3 @@
-use borrow.Author.Rules.{rules}
 use mathlib.Core.Path.{sym, ◌∙◌, ap}
 use lib.ListN.{take}
 use Rattle.definition.specs.Exports.{target_path}

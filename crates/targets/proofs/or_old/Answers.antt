@@ -1,4 +1,3 @@
-use borrow.Author.Rules.{rules}
 use Rattle.targets.proofs.Contexts.{left_old, replaced}
 use Rattle.targets.proofs.or_old.Goals as goal
 

@@ -1,4 +1,3 @@
-use borrow.Author.Rules.{rules}
 use mathlib.Core.Path.{sym, ◌∙◌, ap}
 use Rattle.targets.specs.Answers.{resolved}
 use Rattle.targets.specs.declared.Outcome.TheVariants.{InvalidTarget}

@@ -1,4 +1,3 @@
-use borrow.Author.Rules.{rules}
 use Rattle.targets.proofs.pattern_key_compare.Goals as goal
 
 pub returns : goal.returns

@@ -1,4 +1,3 @@
-use borrow.Author.Rules.{rules}
 use Rattle.laws.specs.TextSteps.{before_inside}
 use Rattle.definition.specs.Text.{star}
 use Rattle.targets.proofs.Keys.{has, has_not, rank_starred, rank_plain}

@@ -1,5 +1,4 @@
 -- `targets::starred_target` meets its contract, by the laws of `Targets`.
-use borrow.Author.Rules.{rules}
 use mathlib.Core.Path.{◌∙◌, ap}
 use Rattle.definition.specs.Text.{star, replace}
 use Rattle.targets.specs.Answers.{resolved}

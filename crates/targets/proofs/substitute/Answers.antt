@@ -1,5 +1,4 @@
 -- `substitute` is the chain: the target, its stars replaced, behind an empty path.
-use borrow.Author.Rules.{rules}
 use mathlib.Core.Path.{◌∙◌}
 use Rattle.definition.specs.Path.{add_extension}
 use Rattle.targets.proofs.substitute.Goals as goal

@@ -1,5 +1,4 @@
 -- `targets::target_path` meets its contract, by the laws of `Targets`.
-use borrow.Author.Rules.{rules}
 use mathlib.Core.Path.{sym, ◌∙◌, ap}
 use Rattle.definition.specs.Exports.{found}
 use Rattle.targets.specs.Answers.{resolved}

@@ -1,6 +1,5 @@
 -- `targets::text_target` meets its contract, by the laws of `Targets` and `Parsing`.
 use native.Mathlib.Omega.{arith}
-use borrow.Author.Rules.{rules}
 use mathlib.Core.Path.{◌∙◌}
 use Rattle.targets.specs.declared.Outcome.TheVariants.{Empty}
 use Rattle.targets.proofs.Targets.{path_put}

@@ -1,5 +1,4 @@
-use borrow.Author.Rules.{rules}
-use mathlib.Core.Path.{◌≡◌, sym, ◌∙◌}
+use mathlib.Core.Path.{◌∙◌}
 use Rattle.targets.proofs.Keys.{fits_empty, fits_short, fits_end}
 use Rattle.targets.proofs.trailer_fits.Goals as goal
 

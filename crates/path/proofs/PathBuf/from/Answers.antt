@@ -1,4 +1,3 @@
-use borrow.Author.Rules.{rules}
 use mathlib.Core.Path.{◌∙◌}
 use Rattle.definition.specs.Path.{add_extension}
 use Rattle.path.proofs.PathBuf.from.Goals as goal

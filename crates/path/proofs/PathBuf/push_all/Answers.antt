@@ -1,5 +1,4 @@
 -- `push_all`: where ".." pops, no room is asked for.
-use borrow.Author.Rules.{rules}
 use mathlib.Core.Bool.{false≢true}
 use Rattle.path.proofs.PathBuf.push_all.Goals as goal
 

@@ -3,7 +3,6 @@ use native.Mathlib.Omega.{arith}
 use lib.Seq.{length-take-le}
 use Rattle.specifier.proofs.Parsed.{body_inside, parse_is}
 use Rattle.specifier.specs.Meaning.{meant}
-use borrow.Author.Rules.{rules}
 use Rattle.specifier.proofs.Specifier.parse.Goals as goal
 
 pub slice_bounds-find-end : goal.slice_bounds-find-end

@@ -1,4 +1,3 @@
-use borrow.Author.Rules.{rules}
 use Rattle.targets.specs.Contexts.{context_of}
 use Rattle.targets.proofs.Contexts.{both}
 use Rattle.targets.proofs.Context.with_query_fragment.Goals as goal
