@@ -5,12 +5,12 @@ use Rattle.json_string.proofs.advance.Goals as goal
 
 pub transition-requires : goal.transition-requires
 unfolding advanced
-transition-requires c = fits_good c.args.p (sym c.fits2.ensures ∙ c.if-right.true)
+transition-requires c = fits_good c.args.p (sym c.fits-right.ensures ∙ c.if-right.true)
 
 pub returns-then-right : goal.returns-then-right
 unfolding advanced
-returns-then-right c = rw (sym c.fits2.ensures ∙ c.if-right.true) c.transition.ensures
+returns-then-right c = rw (sym c.fits-right.ensures ∙ c.if-right.true) c.transition.ensures
 
 pub returns : goal.returns
 unfolding advanced
-returns c = record { is = rw (sym c.fits2.ensures ∙ c.if-right.false); good = tt }
+returns c = record { is = rw (sym c.fits-right.ensures ∙ c.if-right.false); good = tt }

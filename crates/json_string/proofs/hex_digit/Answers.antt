@@ -3,7 +3,6 @@ use Rattle.definition.specs.Text.{within, hex_digit, is_digit}
 use Prim.Native.Nat.{◌≤◌, ◌<◌, ◌-◌}
 use Rattle.json_string.proofs.Rules.{rules}
 use native.Mathlib.Omega.{arith}
-use borrow.Author.Rules.{rules}
 use Rattle.json_string.proofs.hex_digit.Goals as goal
 
 pub returns-then-b-lt48 : goal.returns-then-b-lt48

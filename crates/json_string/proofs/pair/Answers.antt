@@ -2,7 +2,7 @@ use Rattle.definition.specs.Text.{within}
 use Rattle.definition.specs.Json.{pair}
 use Prim.Native.Nat.{◌-◌}
 use Rattle.json_string.proofs.Rules.{rules}
-use borrow.Author.Rules.{rules}
+use native.Mathlib.Omega.{arith}
 use Rattle.json_string.proofs.pair.Goals as goal
 
 pub returns-then-low-lt56320 : goal.returns-then-low-lt56320
@@ -15,4 +15,4 @@ returns-then-low-gt57343 c = record { is = search rules depth 9 fits 3000; good 
 
 pub returns : goal.returns
 unfolding pair within
-returns c = record { is = search rules depth 9 fits 3000; good = search rules }
+returns c = record { is = search rules depth 9 fits 3000; good = (omega arith, tt) }

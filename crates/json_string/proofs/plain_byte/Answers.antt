@@ -3,7 +3,6 @@ use Rattle.definition.specs.Json.{plain_byte}
 use mathlib.Core.Path.{◌∙◌}
 use Prim.Native.Nat.{◌-◌}
 use Rattle.json_string.proofs.Rules.{rules}
-use borrow.Author.Rules.{rules}
 use Rattle.json_string.proofs.plain_byte.Goals as goal
 
 pub returns-then-b-lt32 : goal.returns-then-b-lt32

@@ -6,7 +6,6 @@ use Rattle.json_string.proofs.Steps.{seq_more}
 use Prim.Native.Nat.{◌-◌}
 use Rattle.json_string.proofs.Rules.{rules}
 use native.Mathlib.Omega.{arith}
-use borrow.Author.Rules.{rules}
 use Rattle.json_string.proofs.sequence_byte.Goals as goal
 
 pub returns-then-b-lo : goal.returns-then-b-lo

@@ -3,7 +3,6 @@ use mathlib.Core.Path.{sym}
 use Prim.Native.Nat.{◌-◌}
 use Rattle.json_string.proofs.Rules.{rules}
 use native.Mathlib.Omega.{arith}
-use borrow.Author.Rules.{rules}
 use Rattle.json_string.proofs.transition.Goals as goal
 
 pub sequence_byte-requires : goal.sequence_byte-requires

@@ -38,7 +38,7 @@ loop-i-preserved c =
     let h : o.i - 1 < length q = omega arith in (
       omega arith,
       contains_not slash q (o.i - 1) h c.if-b-eq47.false ∙ rw e o.invariant.1,
-      λ t. elim c.if-not-is_plain.branch [ then-not-is_plain w ↦ absurd (true≢false (sym t ∙ w.1)) | else-not-is_plain w ↦ plain_next q (o.i - 1) h (sym c.is_plain.ensures ∙ not-false _ w.if-not-is_plain.false) (rw e (o.invariant.2 (sym w.1 ∙ t))) ],
+      λ t. elim c.if-not-is_plain.branch [ then-not-is_plain w ↦ absurd (true≢false (sym t ∙ w.plain-is)) | else-not-is_plain w ↦ plain_next q (o.i - 1) h (sym c.is_plain.ensures ∙ w.if-not-is_plain.false) (rw e (o.invariant.2 (sym w.plain-is ∙ t))) ],
     )
 
 pub returns : goal.returns

@@ -18,7 +18,9 @@ slice_bounds-push_relative-count c =
     omega (arith, ap length c.root-head.ensures, (root_of_lem p).short)
 
 pub slice_bounds-push_relative-start : goal.slice_bounds-push_relative-start
-slice_bounds-push_relative-start c = inside c
+slice_bounds-push_relative-start c =
+    let p = c.args.p.now in
+    omega (arith, ap length c.root-head.ensures, (root_of_lem p).short)
 
 pub push_relative-requires : goal.push_relative-requires
 push_relative-requires c =

@@ -6,6 +6,7 @@ use mathlib.Core.Logic.{⊎_elim}
 use Rattle.definition.specs.Path.{pops}
 use Rattle.path.proofs.Parts.{part_same, part_stays}
 use Rattle.path.proofs.push_part.Goals as goal
+use Rattle.path.proofs.push_part.Goals.{then-stays+then-equal+else-not-pops, then-stays+else-equal, else-stays}
 
 pub returns-then-not-pops : goal.returns-then-not-pops
 returns-then-not-pops c =
@@ -16,7 +17,9 @@ returns-then-not-pops c =
 pub returns : goal.returns
 returns c =
     part_same c.args.stays _ _ _
-    (⊎_elim (λ w h k. sym (w.7.ensures ∙ ap pops w.6.ensures) ∙ not-false _ w.8.left)
-    (⊎_elim (λ w h k. absurd (true≢false (sym k ∙ sym w.2.ensures ∙ w.3.left)))
-    (λ w h. absurd (true≢false (sym h ∙ w.left)))) c.if-stays.branch)
+    (elim c.if-stays.branch [
+      | then-stays+then-equal+else-not-pops w ↦ λ h k. sym (w.pops.ensures ∙ ap pops w.first.ensures) ∙ w.if-not-pops.false
+      | then-stays+else-equal w ↦ λ h k. absurd (true≢false (sym k ∙ sym w.equal.ensures ∙ w.if-equal.false))
+      | else-stays w ↦ λ h. absurd (true≢false (sym h ∙ w.if-stays.false))
+    ])
     c.push_component.ensures

@@ -12,11 +12,11 @@ loop-i-init c = widening_begin _ _ _
 pub loop-i-preserved : goal.loop-i-preserved
 loop-i-preserved c =
     elim c.if-not-skip.branch [
-      | then-not-skip w ↦ rw (w.4, w.5)
+      | then-not-skip w ↦ rw (w.b-is, w.n-is)
           (widening_on c.loop-i.invariant c.loop-i-test.true (sym c.is_escape-skip.ensures
-          ∙ not-true _ w.if-not-skip.true) w.3.ensures)
-      | else-not-skip w ↦ rw (w.1, w.2) (widening_skip c.loop-i.invariant c.loop-i-test.true
-          (sym c.is_escape-skip.ensures ∙ not-false _ w.if-not-skip.false))
+          ∙ w.if-not-skip.true) w.widen-n.ensures)
+      | else-not-skip w ↦ rw (w.b-is, w.n-is) (widening_skip c.loop-i.invariant c.loop-i-test.true
+          (sym c.is_escape-skip.ensures ∙ w.if-not-skip.false))
     ]
 
 pub returns : goal.returns
