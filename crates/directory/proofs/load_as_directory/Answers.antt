@@ -1,5 +1,4 @@
 -- `directory::load_as_directory` meets its contract, by the laws of `Manifests` and `Rooms`.
-use mathlib.Core.Path.{◌∙◌}
 use Rattle.definition.specs.Settings.{settings_of}
 use Rattle.definition.specs.Walk.{LOAD_AS_DIRECTORY}
 use Rattle.directory.proofs.Manifests.{own_ended, directory_bare, directory_manifest}
@@ -15,7 +14,7 @@ returns-in_default c =
     let o = c.own_val in
     let g = settings_of c.args.s.now in
     is_done _ (enough _ c.if-work-lt1024.false)
-    (own_ended g c.args.l.now o.result.way o.result.package _ c.in_default.keys2 (o.ensures.0 g))
+    (own_ended g c.args.l.now o.result.way o.result.package _ c.in_default.in_default-own.keys2 (o.ensures.0 g))
 
 pub returns-in_default-package : goal.returns-in_default-package
 returns-in_default-package c =
@@ -23,15 +22,6 @@ returns-in_default-package c =
     is_done _ (enough _ c.if-work-lt1024.false)
     (directory_bare g _ (rw (c.in-Next.is, c.in_default-package.is) at
     (c.own-found.ensures.done g)) c.load_index.ensures)
-
-pub shape_of-res : goal.shape_of-res
-shape_of-res c = c.load_by_manifest.kept.1.1.1.1.1.1.1.0 ∙ c.own-found.kept.1.1.0
-
-pub shape_of-nums : goal.shape_of-nums
-shape_of-nums c = c.load_by_manifest.kept.1.1.1.1.1.1.1.1.0 ∙ c.own-found.kept.1.1.1.0
-
-pub shape_of-text : goal.shape_of-text
-shape_of-text c = c.load_by_manifest.kept.1.1.1.1.1.1.1.1.1.0 ∙ c.own-found.kept.1.1.1.1.0
 
 pub returns : goal.returns
 returns c =

@@ -8,7 +8,7 @@ pub returns-in_default : goal.returns-in_default
 unfolding settings_of by_manifest ◌>>◌
 returns-in_default c =
     let f = c.load_main_fields-out in
-    λ j h. way_passed f.result.way _ (f.ensures j h) c.in_default.keys2
+    λ j h. way_passed f.result.way _ (f.ensures j h) c.in_default.in_default-own.keys2
 
 pub returns : goal.returns
 unfolding settings_of by_manifest ◌>>◌

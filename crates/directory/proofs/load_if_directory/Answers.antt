@@ -1,4 +1,5 @@
 -- `directory::load_if_directory` meets its contract, by the laws of `questions::Questions` and `Rooms`.
+use borrow.Author.Tests.{not-true, not-false}
 use Rattle.definition.specs.Walk.{when}
 use Rattle.directory.specs.Routines.{if_directory}
 use Rattle.consults.specs.Tape.{done_ret}
@@ -15,7 +16,7 @@ unfolding if_directory when
 returns-in_default c =
     let t = c.is_directory-told in
     is_done _ (enough _ c.if-work-lt1024.false)
-    (dir_passed _ t.result.way t.result.yes (t.ensures _ _) _ c.in_default.keys2)
+    (dir_passed _ t.result.way t.result.yes (t.ensures _ _) _ c.in_default.in_default-own.keys2)
 
 pub returns-then-not-told : goal.returns-then-not-told
 unfolding if_directory when
@@ -23,7 +24,7 @@ returns-then-not-told c =
     let t = c.is_directory-told in
     rw c.next.ensures (is_done _ (enough _ c.if-work-lt1024.false)
     (no_dir _ t.result.way t.result.yes (t.ensures _ _) _ c.in-Next.is
-    c.if-not-told.true done_ret))
+    (not-true _ c.if-not-told.true) done_ret))
 
 pub returns : goal.returns
 unfolding if_directory when
@@ -31,4 +32,4 @@ returns c =
     let t = c.is_directory-told in
     let h = enough _ c.if-work-lt1024.false in
     is_done _ h (is_dir_lem _ t.result.way t.result.yes (t.ensures _ _) _ c.in-Next.is
-    c.if-not-told.false (was_done h c.load_as_directory.ensures))
+    (not-false _ c.if-not-told.false) (was_done h c.load_as_directory.ensures))

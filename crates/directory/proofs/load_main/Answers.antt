@@ -13,7 +13,7 @@ pub returns-in_default : goal.returns-in_default
 returns-in_default c =
     let r = c.load_as_file-out in
     main_fits _ _ _ _ _ _ _ (c.normalize_below-p.ensures ∙ main_below _ _) c.if-n-gt2048.false
-    (way_passed r.result.way _ (rw c.first-q.ensures at r.ensures) c.in_default.keys2)
+    (way_passed r.result.way _ (rw c.first-q.ensures at r.ensures) c.in_default.in_default-own.keys2)
 
 pub returns : goal.returns
 returns c =

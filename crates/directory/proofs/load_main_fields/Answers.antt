@@ -20,7 +20,7 @@ unfolding main_field
 returns-in_default c =
     let l = c.loop-i in
     let more : l.i < length (texts_of c.args.s.now 2) = omega (arith, c.count-n.ensures, c.loop-i-test.true) in
-    let x = ended c.load_main_field-out.result.way c.in_default.keys2 in
+    let x = ended c.load_main_field-out.result.way c.in_default.in_default-own.keys2 in
     λ j h. left_stop _ _ _ _ _ _ _ _ _ _ x.0 (left_texts [] _ _ more) (l.invariant.4 j h) x.1 (c.load_main_field-out.ensures j h)
 
 pub loop-i-preserved : goal.loop-i-preserved

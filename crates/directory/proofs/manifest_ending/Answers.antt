@@ -14,4 +14,4 @@ returns c =
     let p = c.first.ensures in
     let f = c.finish.ensures in
     ending_fits _ _ _ _ (c.manifest_path-p.ensures ∙ manifest_built _) _ _ _ c.if-n-gt2048.false
-    (record { ending = rw p at f.0; texts = rw p at f.1 })
+    (record { ending = rw p at f.ending; texts = rw p at f.texts })

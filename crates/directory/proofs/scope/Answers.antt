@@ -23,8 +23,8 @@ returns-in-At c =
     let a = c.args in
     let j = c.judge.ensures in record {
       done = λ G. nearest_found G _ _
-          (rw c.in-At.is at (c.find_package_json-nearest.ensures G a.result.now)) (j.0 G _ _);
-      held = j.1;
+          (rw c.in-At.is at (c.find_package_json-nearest.ensures G a.result.now)) (j.done G _ _);
+      held = j.held;
     }
 
 pub returns-in-Refused : goal.returns-in-Refused

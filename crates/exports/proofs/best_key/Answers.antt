@@ -9,9 +9,6 @@ loop-left-init c =
     let start = c.args in
     (refl, λ ms h. best_start start.m.now start.subpath.now start.at ms c.first_member-cursor.result _ c.first_member-cursor.ensures h (refl, none_yet))
 
-pub shape_of-work-in-Nothing : goal.shape_of-work-in-Nothing
-shape_of-work-in-Nothing c = c.loop-left.invariant.0
-
 pub returns-in-Nothing : goal.returns-in-Nothing
 returns-in-Nothing c = λ ms h. best_done (c.loop-left.invariant.1 ms h) c.in-Nothing.is
 
@@ -25,9 +22,6 @@ loop-left-preserved c =
       better.auto.1.1.1.1.0 ∙ loop.invariant.0,
       λ ms h. best_on (loop.invariant.1 ms h) c.in-At.is c.next_member-cursor.result c.next_member-cursor.ensures better.result better.ensures,
     )
-
-pub shape_of-work : goal.shape_of-work
-shape_of-work c = c.loop-left.invariant.0
 
 pub returns : goal.returns
 returns c = λ ms h. best_over (c.loop-left.invariant.1 ms h) c.loop-left-test.false

@@ -17,7 +17,7 @@ returns-in_default c =
     let f = c.load_file_first-out in
     is_done _ (enough _ c.if-work-lt1024.false)
     (file_found _ _ _ _ _ _ c.normalize_with-p.ensures c.if-n-gt2048.false f.result.way
-    (rw c.first-path.ensures at f.ensures) c.in_default.keys2)
+    (rw c.first-path.ensures at f.ensures) c.in_default.in_default-own.keys2)
 
 pub load_directory_or_file-requires : goal.load_directory_or_file-requires
 load_directory_or_file-requires c = c.if-work-lt1024.false

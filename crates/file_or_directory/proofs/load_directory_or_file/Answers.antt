@@ -8,7 +8,7 @@ pub returns-in_default : goal.returns-in_default
 unfolding bare
 returns-in_default c =
     let t = c.is_directory-told in
-    not_told _ _ t.result.way t.result.yes (t.ensures _ _) c.in_default.keys2
+    not_told _ _ t.result.way t.result.yes (t.ensures _ _) c.in_default.in_default-own.keys2
 
 pub returns-then-told : goal.returns-then-told
 unfolding bare

@@ -13,7 +13,7 @@ use Rattle.files.proofs.load_as_file.Goals as goal
 pub returns-in_default : goal.returns-in_default
 unfolding settings_of
 returns-in_default c =
-    let x = ended c.try_file-first.result.way c.in_default.keys2 in
+    let x = ended c.try_file-first.result.way c.in_default.in_default-own.keys2 in
     file_ended _ _ (c.try_file-first.ensures _) x.0 x.1
 
 pub loop-i-init : goal.loop-i-init
@@ -25,7 +25,7 @@ unfolding settings_of
 returns-in_default-way c =
     let l = c.loop-i in
     let more : l.i < length (texts_of c.args.s.now 1) = omega (arith, c.count-n.ensures, c.loop-i-test.true) in
-    let x = ended c.try_extension-out.result.way c.in_default-way.keys2 in
+    let x = ended c.try_extension-out.result.way c.in_default-way.in_default-way-own.keys2 in
     file_then _ _ (c.try_file-first.ensures _) (onward _ c.in-Next.is)
     (left_stop _ _ _ _ _ _ _ _ _ _ x.0 (left_texts [] _ _ more) l.invariant.3 x.1 (c.try_extension-out.ensures _))
 

@@ -21,7 +21,7 @@ unfolding settings_of LOAD_INDEX load_main_file
 returns-in_default c =
     let l = c.loop-i in
     let more : l.i < length (texts_of c.args.s.now 3) = omega (arith, c.count-n.ensures, c.loop-i-test.true) in
-    let x = ended c.load_main_file-out.result.way c.in_default.keys2 in
+    let x = ended c.load_main_file-out.result.way c.in_default.in_default-own.keys2 in
     left_stop _ _ _ _ _ _ _ _ _ _ x.0 (left_texts [] _ _ more) l.invariant.3 x.1 (rw c.text-file.ensures at c.load_main_file-out.ensures)
 
 pub loop-i-preserved : goal.loop-i-preserved

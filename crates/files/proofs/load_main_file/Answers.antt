@@ -20,7 +20,7 @@ unfolding load_main_file settings_of
 returns-in_default c =
     let l = c.loop-i in
     let more : l.i < length (texts_of c.args.s.now 1) = omega (arith, c.count-n.ensures, c.loop-i-test.true) in
-    let x = ended c.try_index-out.result.way c.in_default.keys2 in
+    let x = ended c.try_index-out.result.way c.in_default.in_default-own.keys2 in
     left_stop _ _ _ _ _ _ _ _ _ _ x.0 (left_texts [] _ _ more) l.invariant.3 x.1 (c.try_index-out.ensures _)
 
 pub loop-i-preserved : goal.loop-i-preserved

@@ -1,5 +1,6 @@
 -- The loop keeps `Kept`, and each way out of it breaks a rule.
 use borrow.Author.Rules.{rules}
+use borrow.Author.Tests.{not-true, not-false}
 use Prim.Native.Nat.{◌-◌}
 use native.Mathlib.Omega.{arith}
 use native.Mathlib.Nat.{le_trans}
@@ -31,13 +32,13 @@ returns-then-not-equal c = not_root c.args.l.now _ c.requires.0 c.read_number-n.
 
 pub returns-then-not-p : goal.returns-then-not-p
 unfolding entry_count
-returns-then-not-p c = not_directory c.args.l.now _ c.requires.0 c.read_number-n.ensures.0 _ c.locate-p.ensures.0 c.equal.ensures c.if-not-equal.false c.if-not-p.true
+returns-then-not-p c = not_directory c.args.l.now _ c.requires.0 c.read_number-n.ensures.0 _ c.locate-p.ensures.0 c.equal.ensures c.if-not-equal.false (not-true _ c.if-not-p.true)
 
 pub loop-i-init : goal.loop-i-init
 unfolding entry_count
 loop-i-init c =
     let o = c.locate-p.ensures in
-    kept_start c.args.l.now _ c.requires.0 c.read_number-n.ensures.0 _ o.0 c.equal.ensures c.if-not-equal.false c.if-not-p.false c.requires.1 o.1 _ (marks_size 1025 1) (marks_one 1025 1 (search rules)) (marks_more 1025 1)
+    kept_start c.args.l.now _ c.requires.0 c.read_number-n.ensures.0 _ o.0 c.equal.ensures c.if-not-equal.false (not-false _ c.if-not-p.false) c.requires.1 o.1 _ (marks_size 1025 1) (marks_one 1025 1 (search rules)) (marks_more 1025 1)
 
 pub locate-q-requires : goal.locate-q-requires
 unfolding entry_count
@@ -75,13 +76,13 @@ step-requires c =
 
 pub returns-then-not-step : goal.returns-then-not-step
 unfolding entry_count
-returns-then-not-step c = kept_wrong c.loop-i.invariant _ c.locate-q.ensures.0 c.step.new.1.1.1.0 c.step.result c.step.ensures c.if-not-step.true
+returns-then-not-step c = kept_wrong c.loop-i.invariant _ c.locate-q.ensures.0 c.step.new.m c.step.result c.step.ensures c.if-not-step.true
 
 pub loop-i-preserved : goal.loop-i-preserved
 unfolding entry_count
 loop-i-preserved c =
     let o = c.locate-q.ensures in
-    kept_next c.loop-i.invariant _ o.0 c.step.new.1.1.1.0 c.step.result c.step.ensures c.if-not-step.false o.1
+    kept_next c.loop-i.invariant _ o.0 c.step.new.m c.step.result c.step.ensures c.if-not-step.false o.1
 
 pub returns : goal.returns
 unfolding entry_count

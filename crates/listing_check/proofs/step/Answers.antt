@@ -1,4 +1,5 @@
 use native.Mathlib.Omega.{arith}
+use borrow.Author.Tests.{not-true, not-false}
 use Rattle.listing_check.proofs.Rises.{risen}
 use Rattle.listing_check.proofs.Steps.{down, no_slash, two_slashes, apart, unmarked, too_deep, no_name, onward}
 use Rattle.listing_check.proofs.step.Goals as goal
@@ -39,7 +40,7 @@ returns-then-v-gt32 c =
 pub returns-then-not-e : goal.returns-then-not-e
 returns-then-not-e c =
     let a = c.args in
-    no_name a.p.now a.q.now a.d a.m.now _ c.last_of-e.ensures.last c.if-s-q.false c.if-s-eq1.false _ c.cut-k.ensures _ (risen c.rise-t.ensures c.in-Up.is) (omega (arith, c.if-k-j.false)) c.if-v-eq0.false c.last_of-e.ensures.behind c.if-not-e.true
+    no_name a.p.now a.q.now a.d a.m.now _ c.last_of-e.ensures.last c.if-s-q.false c.if-s-eq1.false _ c.cut-k.ensures _ (risen c.rise-t.ensures c.in-Up.is) (omega (arith, c.if-k-j.false)) c.if-v-eq0.false c.last_of-e.ensures.behind (not-true _ c.if-not-e.true)
 
 pub remark-requires : goal.remark-requires
 remark-requires c =
@@ -50,4 +51,4 @@ remark-requires c =
 pub returns : goal.returns
 returns c =
     let a = c.args in
-    onward a.p.now a.q.now a.d a.m.now _ c.last_of-e.ensures.last c.if-s-q.false c.if-s-eq1.false _ c.cut-k.ensures _ (risen c.rise-t.ensures c.in-Up.is) (omega (arith, c.if-k-j.false)) c.if-v-eq0.false c.last_of-e.ensures.behind c.if-not-e.false (omega (arith, c.if-v-gt32.false)) c.mark_of.ensures c.remark.ensures
+    onward a.p.now a.q.now a.d a.m.now _ c.last_of-e.ensures.last c.if-s-q.false c.if-s-eq1.false _ c.cut-k.ensures _ (risen c.rise-t.ensures c.in-Up.is) (omega (arith, c.if-k-j.false)) c.if-v-eq0.false c.last_of-e.ensures.behind (not-false _ c.if-not-e.false) (omega (arith, c.if-v-gt32.false)) c.mark_of.ensures c.remark.ensures

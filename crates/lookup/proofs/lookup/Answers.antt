@@ -7,5 +7,5 @@ returns c =
     let r = c.resolve-reply in
     rw (
       zero_all r.last.1.1.1.1.1.1.1.1.0 _ c.zero_from.ensures,
-      r.kept.1.1.1.1.1.1.1.1.0,
+      r.auto.work,
     ) r.ensures

@@ -25,7 +25,7 @@ returns-in-Accepted c =
     let o = c.check-checked in
     let p = passed_by q m o.result (o.ensures a.limit m refl) c.in-Accepted.is in
     let d = c.load_package_self_or_node_modules-finished in
-    let k = d.kept.1.1.1.1.1 in
+    let k = d.auto.res in
     let done = bare_done q m p (d.ensures.done (let h = p.work in omega arith) p.specifier) in
     when_accepted m 0 o.result _ _ _ (called_by q m o.result (o.ensures a.limit m refl))
     c.in-Accepted.is

@@ -30,8 +30,8 @@ loop-start-preserved c =
     let l = c.loop-start in
     let f = c.first-d.ensures in
     let r = c.read_manifest-read in (
-      r.kept.1.1.0 ∙ l.invariant.0,
-      r.kept.1.1.1.0
+      r.auto.nums ∙ l.invariant.0,
+      r.auto.text
           ∙ l.invariant.1,
       λ G res. climbing_more _ _ _ _ _ l.n _ _ _ (l.invariant.2 G res) c.if-above-eq0.false refl
           (ap length (c.parent-n.ensures ∙ ap parent f)) (rw (f, c.in-Missing.is) at (r.ensures G res)),

@@ -1,4 +1,3 @@
-use mathlib.Core.Path.{◌∙◌}
 use native.Mathlib.Omega.{arith}
 use lib.ListN.{length-set}
 use Rattle.output.proofs.Filling.{numbers_done}
@@ -6,9 +5,6 @@ use Rattle.output.proofs.finish_numbers.Goals as goal
 
 pub bounds-nums-1 : goal.bounds-nums-1
 bounds-nums-1 c = simp length-set (omega (arith, c.spread.auto.0))
-
-pub shape_of-nums : goal.shape_of-nums
-shape_of-nums c = c.zero_from_u32.auto.0 ∙ simp length-set c.spread.auto.0
 
 pub returns : goal.returns
 returns c l a b g =

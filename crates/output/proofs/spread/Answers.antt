@@ -21,9 +21,6 @@ loop-i-preserved c =
     let here : get_or l.nums (2 + l.i) 0 ≡ packed_at a.count a.nums.now l.i = rw l.invariant.2 (spread_here a.count a.nums.now c.requires l.i more) in
     (search rules, simp length-set l.invariant.1, rw (here, l.invariant.2) (spread_step a.count a.nums.now c.requires l.i more))
 
-pub shape_of-nums : goal.shape_of-nums
-shape_of-nums c = c.loop-i.invariant.1
-
 pub returns : goal.returns
 returns c =
     let a = c.args in

@@ -15,7 +15,7 @@ returns-in_default c =
     let i = c.loop-i.i in
     let more : i < length (texts_of c.args.s.now 4) = omega (arith, c.count-n.ensures, c.loop-i-test.true) in
     let g = c.get-at.ensures ∙ ap (λ k. get_at k (drop c.args.root c.args.m.now)) c.text.ensures in
-    passed_here c.args.m.now c.args.root _ _ _ _ c.get-at.result (left_texts [] _ _ more) c.loop-i.invariant g c.in_default.keys2
+    passed_here c.args.m.now c.args.root _ _ _ _ c.get-at.result (left_texts [] _ _ more) c.loop-i.invariant g c.in_default.in_default-own.keys2
 
 pub loop-i-preserved : goal.loop-i-preserved
 loop-i-preserved c =

@@ -1,4 +1,3 @@
-use mathlib.Core.Path.{◌∙◌}
 use Rattle.definition.specs.Settings.{settings_of}
 use Rattle.definition.specs.Walk.{LOAD_PACKAGE_EXPORTS}
 use Rattle.directory.proofs.Manifests.{own_ended}
@@ -17,7 +16,7 @@ returns-in_default c =
     unfold LOAD_PACKAGE_EXPORTS in
     let o = c.own-found in
     let g = settings_of c.args.s.now in
-    is_done _ (fits 22 512 _ _ c.if-work-lt1024.false c.if-sub-gt512.false) (own_ended g c.args.l.now o.result.way o.result.package _ c.in_default.keys2 (o.ensures.done g))
+    is_done _ (fits 22 512 _ _ c.if-work-lt1024.false c.if-sub-gt512.false) (own_ended g c.args.l.now o.result.way o.result.package _ c.in_default.in_default-own.keys2 (o.ensures.done g))
 
 pub returns-in_default-package : goal.returns-in_default-package
 returns-in_default-package c =
@@ -26,9 +25,6 @@ returns-in_default-package c =
 
 pub by_exports-requires : goal.by_exports-requires
 by_exports-requires c = (c.if-work-lt1024.false, c.if-sub-gt512.false, rw (c.in-Next.is, c.in-At.is) at c.own-found.ensures.held.1)
-
-pub shape_of-res : goal.shape_of-res
-shape_of-res c = c.by_exports.auto.1.1.1.1.1.1.1.0 ∙ c.own-found.auto.1.1.0
 
 pub returns : goal.returns
 returns c =

@@ -1,6 +1,5 @@
 -- `package_exports::load_package_self` meets its contract, by the laws of `directory::Manifests`, `directory::Rooms` and
 -- `Fields`.
-use mathlib.Core.Path.{◌∙◌}
 use Rattle.definition.specs.Settings.{settings_of}
 use Rattle.definition.specs.Path.{dirs}
 use Rattle.directory.proofs.Manifests.{scope_fits}
@@ -20,7 +19,7 @@ returns-in_default c =
     let a = c.args in
     let g = settings_of a.s.now in
     is_done _ (fits 22 512 _ _ c.if-work-lt1024.false c.if-spec-gt512.false)
-    (self_ended g a.start.now _ a.l.now o.result.way o.result.package c.in_default.keys2 (o.ensures.done g))
+    (self_ended g a.start.now _ a.l.now o.result.way o.result.package c.in_default.in_default-own.keys2 (o.ensures.done g))
 
 pub returns-in_default-package : goal.returns-in_default-package
 returns-in_default-package c =
@@ -39,15 +38,6 @@ in_scope-requires c =
           (scope_fits g (dirs c.args.start.now) _
           (rw (c.in-Next.is, c.in-At.is) at (o.ensures.done g))),
     )
-
-pub shape_of-res : goal.shape_of-res
-shape_of-res c = c.in_scope.kept.1.1.1.1.1.1.0 ∙ c.scope-found.kept.1.1.0
-
-pub shape_of-nums : goal.shape_of-nums
-shape_of-nums c = c.in_scope.kept.1.1.1.1.1.1.1.0 ∙ c.scope-found.kept.1.1.1.0
-
-pub shape_of-text : goal.shape_of-text
-shape_of-text c = c.in_scope.kept.1.1.1.1.1.1.1.1.0 ∙ c.scope-found.kept.1.1.1.1.0
 
 pub returns : goal.returns
 returns c =

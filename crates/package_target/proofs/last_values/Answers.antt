@@ -20,7 +20,7 @@ loop-left-preserved c =
     let value = c.value_at-value in
     let index = c.condition_at-k in
     let put = c.put_value in (
-      put_size loop.values put.new.0 index.result value.result put.ensures loop.invariant.0,
+      put_size loop.values put.new.values index.result value.result put.ensures loop.invariant.0,
       λ d ms h. gather_on (loop.invariant.1 d ms h) c.in-At.is value.result value.ensures index.result index.ensures.by_index _ put.ensures loop.invariant.0 c.next_element-cursor.result c.next_element-cursor.ensures,
     )
 

@@ -8,7 +8,7 @@ pub returns-in_default : goal.returns-in_default
 unfolding bare
 returns-in_default c =
     let d = c.load_if_directory-out in
-    directory_found _ _ _ d.result.way (was_done (enough _ c.requires) d.ensures) c.in_default.keys2
+    directory_found _ _ _ d.result.way (was_done (enough _ c.requires) d.ensures) c.in_default.in_default-own.keys2
 
 pub returns : goal.returns
 unfolding bare

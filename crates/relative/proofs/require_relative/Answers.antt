@@ -17,7 +17,7 @@ returns-in_default c =
     let f = c.load_unless_folder-out in
     is_done _ (enough _ c.if-work-lt1024.false)
     (relative_file _ _ _ _ _ c.normalize_with-p.ensures c.if-n-gt2048.false f.result.way
-    (rw c.first-path.ensures at f.ensures) c.in_default.keys2)
+    (rw c.first-path.ensures at f.ensures) c.in_default.in_default-own.keys2)
 
 pub load_directory_or_none-requires : goal.load_directory_or_none-requires
 load_directory_or_none-requires c = c.if-work-lt1024.false
