@@ -11,7 +11,7 @@ returns-then-work-lt1024 c = rw c.refused.ensures (is_refused_lem _ 25 (too_litt
 pub returns-in_default : goal.returns-in_default
 returns-in_default c =
     unfold LOAD_AS_DIRECTORY in
-    let o = c.own_val in
+    let o = c.own-found in
     let g = settings_of c.args.s.now in
     is_done _ (enough _ c.if-work-lt1024.false)
     (own_ended g c.args.l.now o.result.way o.result.package _ c.in_default.in_default-own.keys2 (o.ensures.0 g))
@@ -25,7 +25,7 @@ returns-in_default-package c =
 
 pub returns : goal.returns
 returns c =
-    let o = c.own_val in
+    let o = c.own-found in
     let p = c.package-1.given in
     let g = settings_of c.args.s.now in
     let m = c.contents-manifest.ensures in

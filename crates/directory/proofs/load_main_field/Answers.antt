@@ -9,7 +9,7 @@ returns-in_default c =
     let x = c.text_at-main.ensures in
     let a = c.args in
     let t = field_text a.manifest.now _ a.root a.work.now _ c.requires (rw c.text.ensures at f.ensures) in
-    λ j h. perhaps_some _ _ _ (ap some x ∙ sym (text_there _ _ f.result c.in_default.in_default-own.keys2) ∙ t j h) c.load_main.ensures
+    λ j h. perhaps_some _ _ _ (ap some x ∙ sym (text_there _ _ f.result c.in_default.not-Nothing) ∙ t j h) c.load_main.ensures
 
 pub returns : goal.returns
 returns c =
