@@ -1,6 +1,6 @@
 -- TEXTS ARE BYTES: the strings and names of a manifest that is read, and a specifier that is accepted, have bytes below
 -- 256. So a path in which each byte is taken for a character, and written in UTF-8, is at most twice as long.
-use Rattle.std.specs.Prelude.{◌≡◌, refl, Bool, true, false, not, ◌&&◌, ℕ, zero, suc, ◌+◌, ◌*◌, ◌≤◌, ◌<◌, length, take, drop, eqb, leb, ltb}
+use Rattle.std.specs.Prelude.{◌≡◌, refl, Bool, true, false, not, ◌&&◌, ℕ, zero, suc, ◌*◌, ◌≤◌, ◌<◌, length, take, drop, eqb, leb, ltb}
 use Rattle.std.proofs.Common.{sym, ◌∙◌, arith, length-append, eqb-true, leb-true, ltb-true, lt-ltb}
 use Rattle.std.proofs.lemmas.Bool.{false≢true}
 use mathlib.Core.List.{List, [], ◌∷◌, ◌++◌, flat_map}

@@ -22,7 +22,7 @@ use Rattle.definition.specs.Exports.{Failure, NotFound, Empty, InvalidModuleSpec
 use Rattle.definition.specs.Ask.{State, Listing, Step, go, stop, ret, end, ask, read, state_of, contents_of, answer, log, within, catch, ◌>>=◌, ◌>>◌, seen, viewed}
 use Rattle.definition.specs.Manifest.{failed, too_many, refused, End, found, stopped, end_texts, Place, Manifest, field, or_first, first_field, fresh, resolved_to, as_place, exports_by, exports_of, imports_of, manifest_view, view_of, view}
 use Rattle.definition.specs.Walk.{Look, Scope, never, when, unless, perhaps, for_each, given, is_file_state, is_dir, is_file, made, at, bare, not_found, left, leaving, sound, main_path, under, or_above, nearest, if_own, own, in_scope_dir, try_file, try_extension, try_index, LOAD_AS_FILE, LOAD_INDEX, load_main, LOAD_AS_DIRECTORY, RESOLVE_ESM_MATCH, by_match, by_exports, LOAD_PACKAGE_EXPORTS, in_scope, LOAD_PACKAGE_SELF, go_on, as_directory, as_file_or_directory, in_modules, in_directory, LOAD_NODE_MODULES, lookup, ending}
-use Rattle.definition.specs.Called.{Question, seen_by, lookup_of, end_of, list_of, joined, Rooms, called}
+use Rattle.definition.specs.Called.{Question, seen_by, lookup_of, end_of, list_of, joined}
 use Rattle.definition.specs.Imports.{Pending, Tried, tried, giving, unasked, caught, unless_ended, imports_way, start, require_relative, require_without_parse, require_path, require_joined, require_parsed, require, exports_or_relative, by_manifest, in_package, if_folder, in_folder, upwards, PACKAGE_RESOLVE, package_target, bare_target, string_target, on_string, PACKAGE_TARGET_RESOLVE, ends, PACKAGE_IMPORTS_EXPORTS_RESOLVE, PACKAGE_IMPORTS_RESOLVE, by_imports, LOAD_PACKAGE_IMPORTS, require_hash, resolve}
 use Rattle.laws.specs.TextLaws.{and_true}
 use Rattle.laws.specs.ExportsLaws.{Strings, StringsIn, StringsOf, Kept, Keeps, OptionHas, Chosen, select_has, get_has, exports_kept}
@@ -31,7 +31,7 @@ use Rattle.laws.specs.FitLaws.{Fit, BuiltFits, limited_fits, normalize_with_fits
 use Rattle.laws.specs.ByteLaws.{Bytes, bytes_append, bytes_take, bytes_drop, bytes_replace, ParsedFits, parsed_fits, TextsOf, parsed_texts, bytes_subpath, utf8_bytes, SmallBytes, manifest_strings}
 use Rattle.laws.specs.WithinLaws.{within_either}
 use Rattle.laws.specs.WalkBounds as bounds
-use Rattle.laws.specs.WalkBounds.{AllFit, within_fit, low_row, never_20}
+use Rattle.laws.specs.WalkBounds.{AllFit, within_fit, low_row}
 use Rattle.laws.specs.SpecifierLaws.{specifier_short}
 use Rattle.laws.specs.DepthLaws.{folder_at}
 use Rattle.laws.specs.SearchLaws.{found_folder}
@@ -847,7 +847,3 @@ start_short q a s =
 
 pub end_fits : (q : Question) → accepted q.listing ≡ true → is_directory_of q.listing q.start ≡ true → is_specifier q.specifier ≡ true → bounds.EndFits (end_of q)
 end_fits q a s n = every_end_fits q (start_short q a s) n
-
--- A RESULT TEXT OF 6,157 BYTES IS NEVER TOO SHORT
-pub room_enough : (q : Question) (m : Rooms) → 6157 ≤ m.result → (called q m).number ≡ 20 → ⊥
-room_enough q m = never_20 q m (end_fits q)
