@@ -4,11 +4,11 @@
 use Rattle.std.proofs.Math.Path.{◌≡◌, refl, sym, ap}
 use Rattle.std.proofs.Common.{◌∙◌, arith, true≢false, inl, inr}
 use Prim.Native.Nat.{ℕ, Ordering}
-use Rattle.std.specs.Prelude.{Bool, ◌↔◌, ◌⊎◌}
+use Rattle.std.specs.Prelude.{Bool, ◌↔◌, ◌⊎◌, if◌then◌else◌}
 use Rattle.std.proofs.Math.Bool.{true, false}
 use mathlib.Core.List.{List, Memᴰ, Permᴰ}
 use Rattle.std.proofs.Math.Option.{Option, none, some}
-use Rattle.definition.specs.Text.{Text, text, if◌then◌else◌, equal, ends_with}
+use Rattle.definition.specs.Text.{Text, text, equal, ends_with}
 use Rattle.definition.specs.Json.{Json}
 use Rattle.definition.specs.Exports.{Context, Entry, Resolved, nothing, is_gt, PATTERN_KEY_COMPARE, pattern_match, best, PACKAGE_TARGET_RESOLVE, literal, Selected, as_selected, literal_or, select, key_of, chosen_key, selected_resolve, PACKAGE_IMPORTS_EXPORTS_RESOLVE}
 use Rattle.laws.specs.ChosenKeyLaws.{Functional}

@@ -4,7 +4,7 @@ use Rattle.std.proofs.Math.Path.{◌≡◌, refl, subst}
 use Rattle.std.proofs.Common.{sym, ◌∙◌, ap, true≢false, inl, inr, length-append, take-append-drop, length-take, length-drop, drop-drop}
 use Prim.Native.Nat.{ℕ, suc, ◌+◌, ◌-◌, ◌≤◌, ◌<◌, Ordering}
 use native.Mathlib.Omega.{arith}
-use Rattle.std.specs.Prelude.{Bool, not, ◌&&◌, ◌||◌, ◌⊎◌, length, take, leb}
+use Rattle.std.specs.Prelude.{Bool, not, ◌&&◌, ◌||◌, ◌⊎◌, length, take, leb, if◌then◌else◌}
 use Rattle.std.proofs.Math.Bool.{true, false}
 use Rattle.std.proofs.lemmas.Bool.{false≢true}
 use mathlib.Core.List.{List, [], ◌∷◌, ◌++◌, append_assoc, Memᴰ}
@@ -13,7 +13,7 @@ use Rattle.std.proofs.Math.ListN.{drop}
 use Rattle.std.proofs.Math.Seq.{drop-append_seam}
 use Rattle.std.proofs.Math.Dec.{eqb, ltb}
 use borrow.Author.Tests.{eq-eqb, eqb-true, eqb-false, leb-true, le-leb, ltb-true, ltb-false, lt-ltb, not-true}
-use Rattle.definition.specs.Text.{Text, text, if◌then◌else◌, star, equal, starts_with, ends_with, contains, before, after}
+use Rattle.definition.specs.Text.{Text, text, star, equal, starts_with, ends_with, contains, before, after}
 use Rattle.laws.specs.TextLaws.{and_true, equal_true, equal_refl, starts_with_take, before_after, before_after_length}
 use Rattle.definition.specs.Exports.{Entry, is_gt, PATTERN_KEY_COMPARE, star_match, is_subpath_key, pattern_match, is_match, matches, better, best}
 use Rattle.laws.specs.KeyOrderLaws.{Kind, pattern, folder, kind_of_lem, some_if, none_if, either_if, or-true, rank, rank_inj, compare_rank}

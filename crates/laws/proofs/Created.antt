@@ -1,9 +1,9 @@
 -- THE VALUE OF AN OBJECT'S MEMBERS, by ECMA-262's own words: the members are created one after the other (`created_in` in SettledLaws).
-use Rattle.std.specs.Prelude.{◌≡◌, Bool}
+use Rattle.std.specs.Prelude.{◌≡◌, Bool, if◌then◌else◌}
 use Rattle.std.proofs.Math.Path.{refl, ap}
 use Rattle.std.proofs.Common.{sym, ◌∙◌, true≢false}
 use Rattle.std.proofs.Math.Bool.{true, false}
-use Rattle.definition.specs.Text.{Text, if◌then◌else◌, equal}
+use Rattle.definition.specs.Text.{Text, equal}
 use Rattle.laws.specs.TextLaws.{equal_true, equal_refl}
 use Rattle.definition.specs.Json.{Json, Members, no_member, member, last_or, without, settled, settled_members}
 use Rattle.laws.specs.SettledLaws.{create_data_property, created_in}

@@ -1,7 +1,7 @@
 -- HOW LONG THE TEXTS OF A LOOKUP ARE, for bare names and for names that begin with "#": every consulted path has at most
 -- 2,048 bytes, and the texts of an answer have at most 6,157 together. One induction over all routines. What it says of
 -- errors is said only where B holds, so that the paths are within the limit whatever the name is.
-use Rattle.std.specs.Prelude.{◌≡◌, Bool, ◌&&◌, ◌||◌, ◌⊎◌, drop, take, leb, ltb}
+use Rattle.std.specs.Prelude.{◌≡◌, Bool, ◌&&◌, ◌||◌, ◌⊎◌, drop, take, leb, ltb, if◌then◌else◌}
 use Rattle.std.proofs.Math.Path.{refl}
 use Rattle.std.proofs.Math.Bool.{true, false, not}
 use mathlib.Core.List.{List, [], ◌∷◌, ◌++◌}
@@ -11,7 +11,7 @@ use Prim.Native.Nat.{ℕ, zero, suc, ◌+◌, ◌-◌, ◌%◌, ◌≤◌, ◌<�
 use native.Mathlib.Omega.{arith}
 use Rattle.std.proofs.Math.ListN.{length, length-take, length-drop}
 use borrow.Author.Tests.{ltb-false}
-use Rattle.definition.specs.Text.{Text, text, if◌then◌else◌, star, equal, ends_with, starts_with, contains, is_one_of, is_utf8, all, before, after}
+use Rattle.definition.specs.Text.{Text, text, star, equal, ends_with, starts_with, contains, is_one_of, is_utf8, all, before, after}
 use Rattle.definition.specs.Path.{Built, built, too_long, limited, normalize_with, add_extension, add_name_and_extension, is_invalid_exports_target, manifest_of, components, parent, dirs}
 use Rattle.definition.specs.Specifier.{Specifier, parsed, empty_specifier, parse_specifier, package_subpath, dot_subpath, strip_package_name, climbing, first_is_normal, is_bare, is_hash, is_specifier}
 use Rattle.definition.specs.Listing.{Entry, no_entry, directory_entry, file_entry, rows, row_fits, sizes_fit, passes30, passes31, passes32, entry_at, found_at, is_directory_of, accepted}
