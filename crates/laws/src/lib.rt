@@ -1,4 +1,5 @@
 // Theorems and laws stand in specs/. This crate has no code of its own; a library needs a function, and this is it.
+
 #![tactic(auto)]
 
 ghost use Rattle.std.specs.Prelude.{◌≡◌};
