@@ -1,15 +1,14 @@
 -- THE LIMIT OF CONSULTS, BY COMPUTATION: 01's printed example, which needs seven consults, asked with one limit after another; and the order
 -- of 42, 53 and 7 at one and the same path.
-use Rattle.std.specs.Prelude.{◌≡◌, ℕ, List, [], ◌∷◌, ◌++◌, map, length, replicate, refl}
+use Rattle.std.specs.Prelude.{◌≡◌, ℕ, List, [], ◌∷◌, length, replicate, refl}
 use Prim.Native.Char.{code}
 use Rattle.definition.specs.Text.{Text, text}
-use Rattle.definition.specs.Listing.{Entry, file_entry}
-use Rattle.definition.specs.Settings.{Settings, settings_of}
+use Rattle.definition.specs.Listing.{file_entry}
+use Rattle.definition.specs.Settings.{settings_of}
 use Rattle.definition.specs.Ask.{Step, go, stop, answer, log, within, seen}
 use Rattle.definition.specs.Manifest.{too_many, refused, End, stopped, end_number, view}
-use Rattle.definition.specs.Walk.{Scope, nearest}
-use Rattle.definition.specs.Called.{Question, Rooms, called, definition_computes}
-use Rattle.std.proofs.Math.Option.{Option}
+use Rattle.definition.specs.Walk.{nearest}
+use Rattle.definition.specs.Called.{called, definition_computes}
 use Rattle.definition.specs.AnswersPrinted.{tree, settings, printed_computes}
 
 -- the printed example within a limit, with so many bytes of result: the number of the call, and how many consults it reports

@@ -1,11 +1,11 @@
 -- TEXTS ARE BYTES: the strings and names of a manifest that is read, and a specifier that is accepted, have bytes below
 -- 256. So a path in which each byte is taken for a character, and written in UTF-8, is at most twice as long.
-use Rattle.std.specs.Prelude.{◌≡◌, refl, Bool, true, false, not, ◌&&◌, ℕ, zero, suc, ◌+◌, ◌*◌, ◌≤◌, ◌<◌, length, take, drop, eqb, leb, ltb}
+use Rattle.std.specs.Prelude.{◌≡◌, refl, Bool, true, false, not, ◌&&◌, ℕ, zero, suc, ◌*◌, ◌≤◌, ◌<◌, length, take, drop, eqb, leb, ltb, if◌then◌else◌}
 use Rattle.std.proofs.Common.{sym, ◌∙◌, arith, length-append, eqb-true, leb-true, ltb-true, lt-ltb}
 use Rattle.std.proofs.lemmas.Bool.{false≢true}
 use mathlib.Core.List.{List, [], ◌∷◌, ◌++◌, flat_map}
 use Rattle.std.proofs.Math.ListN.{length-drop}
-use Rattle.definition.specs.Text.{Text, text, if◌then◌else◌, hash, question, before, from, replace, contains_text, starts_with, within, trail, utf8, Due, due, bad, due_after, is_utf8_from, is_utf8}
+use Rattle.definition.specs.Text.{Text, text, hash, question, before, from, replace, contains_text, starts_with, within, trail, utf8, Due, due, bad, due_after, is_utf8_from, is_utf8}
 use Rattle.definition.specs.Specifier.{Specifier, parsed, empty_specifier, before_fragment, body, unescape, path_before, or_empty, parse_specifier, package_name, package_subpath, dot_subpath}
 use Rattle.definition.specs.Json.{Json, scalar, str, arr, obj, Elements, no_element, element, Members, no_member, got, parse, settled}
 use Rattle.definition.specs.Json as json

@@ -1,12 +1,12 @@
 -- THE SEARCH FOR THE BEST KEY takes the greatest by a number, and so the same in every order of the members. The theorem: ChosenKey.
-use Rattle.std.specs.Prelude.{◌≡◌, ℕ, suc, Bool, ◌&&◌}
+use Rattle.std.specs.Prelude.{◌≡◌, ℕ, suc, Bool, ◌&&◌, if◌then◌else◌}
 use Rattle.std.proofs.Math.Path.{refl, sym, ap}
 use Rattle.std.proofs.Common.{◌∙◌, arith, true≢false, lt-ltb}
 use Rattle.std.proofs.Math.Bool.{true, false}
 use mathlib.Core.List.{List, [], ◌∷◌, Memᴰ, Permᴰ}
 use Rattle.std.proofs.Math.Option.{Option, none, some}
 use Rattle.std.proofs.Math.Dec.{ltb, leb-suc-suc}
-use Rattle.definition.specs.Text.{if◌then◌else◌, equal}
+use Rattle.definition.specs.Text.{equal}
 use Rattle.laws.specs.TextLaws.{equal_true, equal_refl}
 use Rattle.definition.specs.Exports.{Entry, is_gt, PATTERN_KEY_COMPARE, matches, best_key, better, best}
 use Rattle.laws.specs.KeyOrderLaws.{rank, rank_inj, compare_rank}

@@ -1,10 +1,10 @@
 -- HOW LONG THE TEXTS ARE: no path that is built has over 2,048 bytes, and the texts of what exports give, a path with query and fragment or
 -- an error, have at most 6,157 together.
-use Rattle.std.specs.Prelude.{◌≡◌, refl, ℕ, zero, suc, ◌+◌, ◌-◌, ◌*◌, ◌≤◌, Bool, true, false, not, ◌&&◌, ◌||◌, length, drop, take, eqb, leb, ltb}
+use Rattle.std.specs.Prelude.{◌≡◌, refl, ℕ, zero, suc, ◌+◌, ◌-◌, ◌*◌, ◌≤◌, Bool, true, false, not, ◌&&◌, ◌||◌, length, drop, take, eqb, leb, ltb, if◌then◌else◌}
 use Rattle.std.proofs.Common.{arith, length-append, length-take, length-drop, leb-true, ltb-false}
 use mathlib.Core.List.{List, [], ◌∷◌, ◌++◌, flat_map}
 use Rattle.std.proofs.Math.Option.{Option, none, some}
-use Rattle.definition.specs.Text.{text, if◌then◌else◌, star, hash, question, equal, starts_with, ends_with, contains, contains_text, before, from, after, utf8}
+use Rattle.definition.specs.Text.{text, star, hash, question, equal, starts_with, ends_with, contains, contains_text, before, from, after, utf8}
 use Rattle.laws.specs.TextSteps.{before_inside}
 use Rattle.definition.specs.Path.{Component, root_dir, cur_dir, parent_dir, normal, components, push, parent, Built, built, too_long, and_path, limited, push_component, push_all, normalize_onto, normalize_with, normalize_relative, is_invalid_exports_target, add_extension, add_name_and_extension, manifest_of, depth, climb, dirs}
 use Rattle.laws.specs.PathLaws.{parent_short, normalize_relative_short}

@@ -1,7 +1,7 @@
 -- How a reader ends on a text of the grammar: with the value, or, only where a limit is broken, with a fault that is not `malformed`.
-use Rattle.std.specs.Prelude.{◌≡◌, refl, ℕ, Bool, true, false, ◌||◌, [], ◌∷◌, ◌++◌, eqb}
+use Rattle.std.specs.Prelude.{◌≡◌, refl, ℕ, Bool, true, false, ◌||◌, [], ◌∷◌, ◌++◌, eqb, if◌then◌else◌}
 use Rattle.std.proofs.Common.{sym, ◌∙◌, ap, append_assoc, eqb-true}
-use Rattle.definition.specs.Text.{Text, if◌then◌else◌, skip_while}
+use Rattle.definition.specs.Text.{Text, skip_while}
 use Rattle.definition.specs.Json.{Read, got, Fault, malformed, fault, and_then, is_space, skip_space}
 use Rattle.definition.specs.JsonGrammar as G
 use Rattle.definition.specs.JsonGrammar.{no-space, space, horizontal-tab, line-feed, carriage-return, spaced}

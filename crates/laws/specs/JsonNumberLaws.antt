@@ -1,8 +1,8 @@
 -- Numbers: the reader of a number against the grammar, both ways.
-use Rattle.std.specs.Prelude.{◌≡◌, refl, ℕ, ◌≤◌, Bool, true, false, ◌||◌, [], ◌∷◌, ◌++◌, eqb}
+use Rattle.std.specs.Prelude.{◌≡◌, refl, ℕ, ◌≤◌, Bool, true, false, ◌||◌, [], ◌∷◌, ◌++◌, eqb, if◌then◌else◌}
 use Rattle.std.proofs.Common.{sym, ◌∙◌, ap, subst, arith, append_assoc, eqb-true, ne_eqb}
 use Rattle.std.proofs.lemmas.Bool.{eqb-false}
-use Rattle.definition.specs.Text.{Text, if◌then◌else◌, within, skip_while, is_digit}
+use Rattle.definition.specs.Text.{Text, within, skip_while, is_digit}
 use Rattle.laws.specs.TextSteps.{within_yes}
 use Rattle.definition.specs.Json.{Json, scalar, got, and_then, skip_digits, digits, sign, exponent, fraction, integer}
 use Rattle.laws.specs.Local.{no_got, Both, and_then_both}

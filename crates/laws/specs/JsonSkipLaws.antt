@@ -1,11 +1,11 @@
 -- A VALUE THAT IS PASSED BY: brackets and quotes are enough to find the end of a text of the grammar.
-use Rattle.std.specs.Prelude.{◌≡◌, refl, Bool, true, false, [], ◌∷◌, ◌++◌, eqb}
+use Rattle.std.specs.Prelude.{◌≡◌, refl, Bool, true, false, [], ◌∷◌, ◌++◌, eqb, if◌then◌else◌}
 use Rattle.std.proofs.Common.{◌∙◌, ap, append_assoc}
 use Prim.Native.Nat.{ℕ, suc, ◌+◌, ◌-◌, ◌≤◌}
 use native.Mathlib.Omega.{arith}
 use Rattle.std.proofs.Math.Option.{some}
 use borrow.Author.Tests.{ne_eqb}
-use Rattle.definition.specs.Text.{Text, if◌then◌else◌}
+use Rattle.definition.specs.Text.{Text}
 use Rattle.definition.specs.Json.{Json, scalar, str, arr, obj, Elements, no_element, element, Members, no_member, member, skip_space}
 use Rattle.laws.specs.JsonEndLaws.{skip_ws}
 use Rattle.definition.specs.JsonAt.{then_at, text_end, opens_bracket, closes_bracket, outside, in_text, escaped, bracket_end}

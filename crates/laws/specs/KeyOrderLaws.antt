@@ -1,5 +1,5 @@
 -- The chosen key is the same in every order of the members.
-use Rattle.std.specs.Prelude.{◌≡◌, Bool, not, ◌&&◌, ◌||◌, List, [], ◌∷◌, ◌⊎◌, length, drop, take, leb, ltb}
+use Rattle.std.specs.Prelude.{◌≡◌, Bool, not, ◌&&◌, ◌||◌, List, [], ◌∷◌, ◌⊎◌, length, drop, take, leb, ltb, if◌then◌else◌}
 use Rattle.std.proofs.Math.Path.{refl}
 use Rattle.std.proofs.Common.{sym, ◌∙◌, ap, mul-le-mul_right, suc-mul, true≢false, inl, inr, eqb-true, leb-true, leb-false, lt-ltb, le-ltb}
 use Prim.Native.Nat.{ℕ, suc, ◌+◌, ◌-◌, ◌*◌, ◌≤◌, ◌<◌, Ordering, compare}
@@ -10,7 +10,7 @@ use Rattle.std.proofs.lemmas.Bool.{false≢true, eqb-false}
 use Rattle.std.proofs.Math.Option.{Option, none, some}
 use Rattle.std.proofs.Math.Seq.{drop-length}
 use Rattle.std.proofs.Math.Dec.{is_le, compare_is_eq}
-use Rattle.definition.specs.Text.{text, if◌then◌else◌, star, equal, starts_with, ends_with, contains, before, after}
+use Rattle.definition.specs.Text.{text, star, equal, starts_with, ends_with, contains, before, after}
 use Rattle.laws.specs.TextLaws.{and_true, equal_true, starts_with_take, starts_with_length, ends_with_drop, before_after, before_after_length}
 use Rattle.definition.specs.Exports.{base_length, greater_first, PATTERN_KEY_COMPARE, is_gt, star_match, is_subpath_key, pattern_match, is_match, matches}
 

@@ -1,6 +1,6 @@
 -- A rising list of entries, and the marks of the prefixes of one path that are directory entries: what one pass over the listing
 -- uses to test order and parents.
-use Rattle.std.specs.Prelude.{◌≡◌, ℕ, zero, suc, ◌+◌, ◌-◌, ◌*◌, ◌≤◌, ◌<◌, max, Bool, ◌&&◌, ◌||◌, ◌⊎◌, leb, ltb, drop, take, get_or, set, replicate}
+use Rattle.std.specs.Prelude.{◌≡◌, ℕ, zero, suc, ◌+◌, ◌-◌, ◌*◌, ◌≤◌, ◌<◌, max, Bool, ◌&&◌, ◌||◌, ◌⊎◌, leb, ltb, drop, take, get_or, set, replicate, if◌then◌else◌}
 use Rattle.std.proofs.Math.Path.{refl, sym, ap}
 use Rattle.std.proofs.Common.{◌∙◌, true≢false, inl, inr, length-set, length-drop, length-take-le, get_or-take, take-take, take_all, get_or-set_same, get_or-set_other}
 use Rattle.std.proofs.Math.Bool.{true, false, not, and-false, or-true}
@@ -12,7 +12,7 @@ use Rattle.std.proofs.Math.Dec.{eqb}
 use Rattle.std.proofs.Math.ListN.{length}
 use Rattle.std.proofs.lemmas.List.{length-replicate}
 use Rattle.std.proofs.Math.Seq.{take-length}
-use Rattle.definition.specs.Text.{Text, text, if◌then◌else◌, slash, equal, smaller, count, all}
+use Rattle.definition.specs.Text.{Text, text, slash, equal, smaller, count, all}
 use Rattle.laws.specs.TextLaws.{and_true, equal_true, equal_refl}
 use Rattle.laws.specs.TextSteps.{equal_lengths, smaller_start, smaller_here, take_more}
 use Rattle.definition.specs.Path.{depth}

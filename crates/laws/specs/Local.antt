@@ -1,5 +1,5 @@
 -- Locality: a reader that succeeds reads a text off the front, and reads it again in front of any other rest that may follow.
-use Rattle.std.specs.Prelude.{◌≡◌, refl, ℕ, ◌+◌, Bool, true, false, List, [], ◌∷◌, ◌++◌}
+use Rattle.std.specs.Prelude.{◌≡◌, refl, ℕ, Bool, true, false, List, [], ◌∷◌, ◌++◌}
 use Rattle.std.proofs.Common.{sym, ◌∙◌, ap, arith, append_assoc}
 use Rattle.definition.specs.Text.{skip_while}
 use Rattle.definition.specs.Json.{Read, got, Fault, fault, and_then, is_space, skip_space}

@@ -1,5 +1,5 @@
 -- Facts about `Path`: the limit, `push`, components from a place on, lengths, the climb. Parents by the last slash: PathSteps.
-use Rattle.std.specs.Prelude.{◌≡◌, Bool, ◌&&◌, ◌||◌, ◌⊎◌, leb}
+use Rattle.std.specs.Prelude.{◌≡◌, Bool, ◌&&◌, ◌||◌, ◌⊎◌, leb, if◌then◌else◌}
 use Rattle.std.proofs.Math.Path.{refl, sym, ap}
 use Rattle.std.proofs.Common.{◌∙◌, inl, inr, ⊎_elim}
 use Prim.Native.Nat.{ℕ, suc, ◌+◌, ◌-◌, ◌≤◌, ◌<◌}
@@ -10,7 +10,7 @@ use Rattle.std.proofs.Math.ListN.{length, drop, take, get_or, length-append}
 use Rattle.std.proofs.Math.Seq.{drop-cons, drop-length, get_or-take}
 use Rattle.std.proofs.Math.Dec.{eqb}
 use borrow.Author.Tests.{le-leb, lt-leb, leb-true, leb-false, eqb-true, eqb-false, eq-eqb, ne_eqb}
-use Rattle.definition.specs.Text.{text, if◌then◌else◌, slash, equal, starts_with, ends_with, contains, before, before_last, to_first, split, count, all}
+use Rattle.definition.specs.Text.{text, slash, equal, starts_with, ends_with, contains, before, before_last, to_first, split, count, all}
 use Rattle.laws.specs.TextLaws.{equal_true, and_true}
 use Rattle.definition.specs.Listing.{is_component, is_path}
 use Rattle.laws.specs.PathSteps.{split_at, behind_end, behind_more, starts_with_lem, starts_empty, last_inside, LastAt, last_found, last_missing, count_none}

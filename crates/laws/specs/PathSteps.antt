@@ -1,5 +1,5 @@
 -- Parents, names and components at places of a slice.
-use Rattle.std.specs.Prelude.{◌≡◌, ℕ, zero, suc, ◌+◌, ◌-◌, ◌≤◌, ◌<◌, Bool, true, false, not, ◌&&◌, ◌||◌, eqb, drop, take, get_or}
+use Rattle.std.specs.Prelude.{◌≡◌, ℕ, zero, suc, ◌+◌, ◌-◌, ◌≤◌, ◌<◌, Bool, true, false, not, ◌&&◌, ◌||◌, eqb, drop, take, get_or, if◌then◌else◌}
 use Rattle.std.proofs.Math.Path.{refl}
 use Rattle.std.proofs.Common.{sym, ◌∙◌, ap, eqb-true, eq-eqb, drop_of_length-le, drop-cons, drop-drop}
 use Rattle.std.proofs.Math.Bool.{or-true}
@@ -10,7 +10,7 @@ use Rattle.std.proofs.Math.Numerals.{add-one}
 use Rattle.std.proofs.Math.Dec.{eqb-zero-suc, eqb-suc-suc}
 use Rattle.std.proofs.Math.ListN.{length, length-drop}
 use Rattle.std.proofs.Math.Seq.{take-suc, take_all, length-take-le}
-use Rattle.definition.specs.Text.{text, if◌then◌else◌, slash, starts_with, contains, count, before, before_last, to_first, split, all, Due, due, bad, is_utf8_from, is_utf8, due_after, within}
+use Rattle.definition.specs.Text.{slash, starts_with, contains, count, before, before_last, to_first, split, all, Due, due, bad, is_utf8_from, is_utf8, due_after, within}
 use Rattle.laws.specs.TextLaws.{and_true}
 use Rattle.definition.specs.Path.{or_root, parent, name_of}
 

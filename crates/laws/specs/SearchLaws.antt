@@ -1,10 +1,10 @@
 -- The search of a listing: over any bytes it finds nothing or what the listing has, and over paths that rise what the listing has.
-use Rattle.std.specs.Prelude.{◌≡◌, Bool, true, false, ◌&&◌, ◌||◌, List, [], ◌∷◌, ◌⊎◌, eqb, leb, ltb, length, take}
+use Rattle.std.specs.Prelude.{◌≡◌, Bool, true, false, ◌&&◌, ◌||◌, List, [], ◌∷◌, ◌⊎◌, eqb, leb, ltb, length, take, if◌then◌else◌}
 use Rattle.std.proofs.Math.Path.{refl, ap}
 use Rattle.std.proofs.Common.{sym, ◌∙◌, true≢false, inl, inr, eq-eqb, lt-ltb, le-ltb}
 use Prim.Native.Nat.{ℕ, zero, suc, ◌+◌, ◌*◌, ◌≤◌, ◌<◌, min}
 use native.Mathlib.Omega.{arith}
-use Rattle.definition.specs.Text.{Text, if◌then◌else◌, equal, smaller, all}
+use Rattle.definition.specs.Text.{Text, equal, smaller, all}
 use Rattle.definition.specs.Listing.{Entry, no_entry, directory_entry, file_entry, entry_count, directory_mark, contents_length, Row, rows, rising, first_is_root, is_path, parent_is_directory, entry_of, entry_in, entry_at, found_in, found_at, Span, span_of, place_in, place_at, passes30, passes31, passes32, accepted}
 use Rattle.definition.specs.Ask.{absent, file, state_of}
 use Rattle.laws.specs.TextLaws.{and_true, equal_refl}

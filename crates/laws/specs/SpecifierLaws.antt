@@ -1,5 +1,5 @@
 -- Facts about the definitions of `Specifier`. Assumes nothing.
-use Rattle.std.specs.Prelude.{◌≡◌, refl, Bool, false, ◌&&◌, ◌||◌, List, [], ◌∷◌, ◌++◌, eqb, drop, take, get_or}
+use Rattle.std.specs.Prelude.{◌≡◌, refl, Bool, false, ◌&&◌, ◌||◌, List, [], ◌∷◌, ◌++◌, eqb, drop, take, get_or, if◌then◌else◌}
 use Rattle.std.proofs.Common.{sym, ◌∙◌, length-take, drop_of_length-le, drop-cons}
 use Rattle.std.proofs.Math.Path.{ap}
 use Prim.Native.Nat.{ℕ, zero, suc, ◌+◌, ◌≤◌, ◌<◌}
@@ -10,7 +10,7 @@ use borrow.Author.Tests.{eqb-true, eqb-false, eq-eqb, ne_eqb, leb-true, not-true
 use Rattle.std.proofs.Math.Dec.{leb}
 use Rattle.std.proofs.Math.ListN.{length, length-append}
 use Rattle.std.proofs.Math.Seq.{take-append-add, append_snoc, drop-nil}
-use Rattle.definition.specs.Text.{text, if◌then◌else◌, slash, equal, starts_with, is_utf8, contains, contains_text, before, after, to_first, split}
+use Rattle.definition.specs.Text.{text, slash, equal, starts_with, is_utf8, contains, contains_text, before, after, to_first, split}
 use Rattle.laws.specs.TextLaws.{before_after, and_true}
 use Rattle.definition.specs.Path.{component, leading, components}
 use Rattle.definition.specs.Specifier.{package_name, first_is_normal, is_bare, normalized_specifier, climbing, is_hash, is_specifier, specifier_computes}

@@ -1,5 +1,5 @@
 -- The tests of `Text` at a place of a slice: what a loop over the bytes uses.
-use Rattle.std.specs.Prelude.{◌≡◌, Bool, true, ◌&&◌, ◌||◌, leb, drop, take, set, replicate}
+use Rattle.std.specs.Prelude.{◌≡◌, Bool, true, ◌&&◌, ◌||◌, leb, drop, take, set, replicate, if◌then◌else◌}
 use Rattle.std.proofs.Math.Path.{refl, sym}
 use Rattle.std.proofs.Common.{◌∙◌, ap, add-one, length-drop, take-append-drop, take-suc}
 use Prim.Native.Nat.{ℕ, zero, suc, ◌+◌, ◌-◌, ◌≤◌, ◌<◌, min}
@@ -12,7 +12,7 @@ use Rattle.std.proofs.Math.Nat.{add-zero}
 use Rattle.std.proofs.Math.ListN.{length, get_or, drop_of_length-le, length-set}
 use Rattle.std.proofs.lemmas.List.{length-map}
 use Rattle.std.proofs.Math.Seq.{drop-cons, take_all, take-nil, take-suc-set, drop-set-lt, append_snoc}
-use Rattle.definition.specs.Text.{if◌then◌else◌, equal, equal_ignoring_case, lower_case, starts_with, smaller, count, contains, contains_text, before, before_last, within, Due, due, bad, due_after, is_utf8_from, is_utf8, overwrite, zero_from}
+use Rattle.definition.specs.Text.{equal, equal_ignoring_case, lower_case, starts_with, smaller, count, contains, contains_text, before, before_last, within, Due, due, bad, due_after, is_utf8_from, is_utf8, overwrite, zero_from}
 
 pub equal_lengths : (a b : List ℕ) → (length a ≡ length b → ⊥) → equal a b ≡ false
 unfolding equal

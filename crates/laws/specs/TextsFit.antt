@@ -1,7 +1,7 @@
 -- HOW LONG THE TEXTS OF A LOOKUP ARE, for bare names and for names that begin with "#": every consulted path has at most
 -- 2,048 bytes, and the texts of an answer have at most 6,157 together. One induction over all routines. What it says of
 -- errors is said only where B holds, so that the paths are within the limit whatever the name is.
-use Rattle.std.specs.Prelude.{◌≡◌, Bool, ◌&&◌, ◌||◌, ◌⊎◌, drop, take, leb, ltb}
+use Rattle.std.specs.Prelude.{◌≡◌, Bool, ◌&&◌, ◌||◌, ◌⊎◌, drop, take, leb, ltb, if◌then◌else◌}
 use Rattle.std.proofs.Math.Path.{refl}
 use Rattle.std.proofs.Math.Bool.{true, false, not}
 use mathlib.Core.List.{List, [], ◌∷◌, ◌++◌}
@@ -11,7 +11,7 @@ use Prim.Native.Nat.{ℕ, zero, suc, ◌+◌, ◌-◌, ◌%◌, ◌≤◌, ◌<�
 use native.Mathlib.Omega.{arith}
 use Rattle.std.proofs.Math.ListN.{length, length-take, length-drop}
 use borrow.Author.Tests.{ltb-false}
-use Rattle.definition.specs.Text.{Text, text, if◌then◌else◌, star, equal, ends_with, starts_with, contains, is_one_of, is_utf8, all, before, after}
+use Rattle.definition.specs.Text.{Text, text, star, equal, ends_with, starts_with, contains, is_one_of, is_utf8, all, before, after}
 use Rattle.definition.specs.Path.{Built, built, too_long, limited, normalize_with, add_extension, add_name_and_extension, is_invalid_exports_target, manifest_of, components, parent, dirs}
 use Rattle.definition.specs.Specifier.{Specifier, parsed, empty_specifier, parse_specifier, package_subpath, dot_subpath, strip_package_name, climbing, first_is_normal, is_bare, is_hash, is_specifier}
 use Rattle.definition.specs.Listing.{Entry, no_entry, directory_entry, file_entry, rows, row_fits, sizes_fit, passes30, passes31, passes32, entry_at, found_at, is_directory_of, accepted}
@@ -22,7 +22,7 @@ use Rattle.definition.specs.Exports.{Failure, NotFound, Empty, InvalidModuleSpec
 use Rattle.definition.specs.Ask.{State, Listing, Step, go, stop, ret, end, ask, read, state_of, contents_of, answer, log, within, catch, ◌>>=◌, ◌>>◌, seen, viewed}
 use Rattle.definition.specs.Manifest.{failed, too_many, refused, End, found, stopped, end_texts, Place, Manifest, field, or_first, first_field, fresh, resolved_to, as_place, exports_by, exports_of, imports_of, manifest_view, view_of, view}
 use Rattle.definition.specs.Walk.{Look, Scope, never, when, unless, perhaps, for_each, given, is_file_state, is_dir, is_file, made, at, bare, not_found, left, leaving, sound, main_path, under, or_above, nearest, if_own, own, in_scope_dir, try_file, try_extension, try_index, LOAD_AS_FILE, LOAD_INDEX, load_main, LOAD_AS_DIRECTORY, RESOLVE_ESM_MATCH, by_match, by_exports, LOAD_PACKAGE_EXPORTS, in_scope, LOAD_PACKAGE_SELF, go_on, as_directory, as_file_or_directory, in_modules, in_directory, LOAD_NODE_MODULES, lookup, ending}
-use Rattle.definition.specs.Called.{Question, seen_by, lookup_of, end_of, list_of, joined, Rooms, called}
+use Rattle.definition.specs.Called.{Question, seen_by, lookup_of, end_of, list_of, joined}
 use Rattle.definition.specs.Imports.{Pending, Tried, tried, giving, unasked, caught, unless_ended, imports_way, start, require_relative, require_without_parse, require_path, require_joined, require_parsed, require, exports_or_relative, by_manifest, in_package, if_folder, in_folder, upwards, PACKAGE_RESOLVE, package_target, bare_target, string_target, on_string, PACKAGE_TARGET_RESOLVE, ends, PACKAGE_IMPORTS_EXPORTS_RESOLVE, PACKAGE_IMPORTS_RESOLVE, by_imports, LOAD_PACKAGE_IMPORTS, require_hash, resolve}
 use Rattle.laws.specs.TextLaws.{and_true}
 use Rattle.laws.specs.ExportsLaws.{Strings, StringsIn, StringsOf, Kept, Keeps, OptionHas, Chosen, select_has, get_has, exports_kept}
@@ -31,7 +31,7 @@ use Rattle.laws.specs.FitLaws.{Fit, BuiltFits, limited_fits, normalize_with_fits
 use Rattle.laws.specs.ByteLaws.{Bytes, bytes_append, bytes_take, bytes_drop, bytes_replace, ParsedFits, parsed_fits, TextsOf, parsed_texts, bytes_subpath, utf8_bytes, SmallBytes, manifest_strings}
 use Rattle.laws.specs.WithinLaws.{within_either}
 use Rattle.laws.specs.WalkBounds as bounds
-use Rattle.laws.specs.WalkBounds.{AllFit, within_fit, low_row, never_20}
+use Rattle.laws.specs.WalkBounds.{AllFit, within_fit, low_row}
 use Rattle.laws.specs.SpecifierLaws.{specifier_short}
 use Rattle.laws.specs.DepthLaws.{folder_at}
 use Rattle.laws.specs.SearchLaws.{found_folder}
@@ -847,7 +847,3 @@ start_short q a s =
 
 pub end_fits : (q : Question) → accepted q.listing ≡ true → is_directory_of q.listing q.start ≡ true → is_specifier q.specifier ≡ true → bounds.EndFits (end_of q)
 end_fits q a s n = every_end_fits q (start_short q a s) n
-
--- A RESULT TEXT OF 6,157 BYTES IS NEVER TOO SHORT
-pub room_enough : (q : Question) (m : Rooms) → 6157 ≤ m.result → (called q m).number ≡ 20 → ⊥
-room_enough q m = never_20 q m (end_fits q)
