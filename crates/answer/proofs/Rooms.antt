@@ -5,7 +5,7 @@ use Prim.Native.Nat.{ℕ, ◌+◌, ◌-◌, ◌≤◌}
 use native.Mathlib.Omega.{arith}
 use borrow.Author.Tests.{ltb-true, leb-true, leb-false, le-leb, lt-leb}
 use lib.Dec.{ltb, leb}
-use Rattle.definition.specs.Text.{if◌then◌else◌}
+use Rattle.std.specs.Prelude.{if◌then◌else◌}
 use Rattle.laws.specs.TextLaws.{and_true}
 use Rattle.listing_check.specs.declared.Checked.TheVariants.{Accepted, Refused}
 use Rattle.consults.specs.Tape.{most}

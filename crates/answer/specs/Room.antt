@@ -1,6 +1,5 @@
 -- What an ending and a list take of the lent buffers, and the refusals behind the lookup.
-use Rattle.std.specs.Prelude.{Bool, not, ◌&&◌, ◌||◌, ℕ, ◌+◌, ◌*◌, ◌≤◌, ◌<◌, eqb, ltb, leb}
-use Rattle.definition.specs.Text.{if◌then◌else◌}
+use Rattle.std.specs.Prelude.{Bool, not, ◌&&◌, ◌||◌, ℕ, ◌+◌, ◌*◌, ◌≤◌, ◌<◌, eqb, ltb, leb, if◌then◌else◌}
 use Rattle.listing_check.specs.declared.Checked.{Checked}
 use Rattle.listing_check.specs.declared.Checked.TheVariants.{Accepted, Refused}
 use Rattle.consults.specs.Tape.{most}

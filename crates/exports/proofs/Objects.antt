@@ -8,7 +8,8 @@ use mathlib.Core.Option.{Option, none, some}
 use Prim.Native.Nat.{ℕ, ◌-◌, ◌≤◌, Ordering}
 use native.Mathlib.Omega.{arith}
 use lib.ListN.{drop}
-use Rattle.definition.specs.Text.{if◌then◌else◌, equal, contains}
+use Rattle.std.specs.Prelude.{if◌then◌else◌}
+use Rattle.definition.specs.Text.{equal, contains}
 use Rattle.laws.specs.TextLaws.{equal_refl}
 use Rattle.definition.specs.Reordered.{NoKey, Distinct}
 use Rattle.laws.specs.SettledLaws.{settled_distinct, any_settled}

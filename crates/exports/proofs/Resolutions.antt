@@ -6,7 +6,8 @@ use mathlib.Core.Option.{none, some}
 use Prim.Native.Nat.{ℕ}
 use native.Mathlib.Omega.{arith}
 use lib.ListN.{take}
-use Rattle.definition.specs.Text.{text, if◌then◌else◌, equal}
+use Rattle.std.specs.Prelude.{if◌then◌else◌}
+use Rattle.definition.specs.Text.{text, equal}
 use Rattle.definition.specs.Path.{manifest_of}
 use Rattle.definition.specs.Json.{Json, scalar, str, arr, obj, Members}
 use Rattle.definition.specs.Settings.{texts_of}

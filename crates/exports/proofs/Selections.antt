@@ -6,7 +6,8 @@ use mathlib.Core.Option.{Option, none, some}
 use Prim.Native.Nat.{ℕ, suc}
 use native.Mathlib.Omega.{arith}
 use lib.ListN.{length, drop, take}
-use Rattle.definition.specs.Text.{text, if◌then◌else◌, star, starts_with, ends_with, contains}
+use Rattle.std.specs.Prelude.{if◌then◌else◌}
+use Rattle.definition.specs.Text.{text, star, starts_with, ends_with, contains}
 use Rattle.definition.specs.Json.{Json, obj, Members, got, quoted}
 use Rattle.definition.specs.JsonAt.{get_at}
 use Rattle.definition.specs.Manifest.{field}

@@ -9,7 +9,8 @@ use borrow.Author.Tests.{lt-leb, leb-false}
 use lib.Dec.{leb}
 use lib.ListN.{length, get_or, drop, drop_of_length-le, length-append}
 use lib.Seq.{drop-cons}
-use Rattle.definition.specs.Text.{Text, text, if◌then◌else◌}
+use Rattle.std.specs.Prelude.{if◌then◌else◌}
+use Rattle.definition.specs.Text.{Text, text}
 use Rattle.definition.specs.Path.{Built, built, too_long, and_path, limited, add_extension, add_name_and_extension}
 use Rattle.definition.specs.Settings.{Settings}
 use Rattle.definition.specs.Ask.{Listing, Step, go, stop, ◌>>=◌, ◌>>◌}

@@ -1,7 +1,7 @@
 -- The definition's readers of a value and of what stands behind a value or a name, in the code's steps.
-use Rattle.std.specs.Prelude.{ℕ, List, [], ◌∷◌, drop, eqb}
+use Rattle.std.specs.Prelude.{ℕ, List, [], ◌∷◌, drop, eqb, if◌then◌else◌}
 use Prim.Native.Char.{code}
-use Rattle.definition.specs.Text.{if◌then◌else◌, text}
+use Rattle.definition.specs.Text.{text}
 use Rattle.definition.specs.Json.{Json, Read, got, fault, malformed, skip_space, word, integer}
 use Rattle.json_scalar.specs.declared.Then.{Then}
 use Rattle.json_scalar.specs.declared.Then.TheVariants.{More, Close, Neither}

@@ -1,7 +1,7 @@
 -- The code's places, outputs and steps of a string's reader as the definition's.
-use Rattle.std.specs.Prelude.{◌≡◌, ℕ, zero, suc, ◌-◌, ◌≤◌, ◌<◌, Bool, true, false, List, [], ◌∷◌, eqb, ltb}
+use Rattle.std.specs.Prelude.{◌≡◌, ℕ, zero, suc, ◌-◌, ◌≤◌, ◌<◌, Bool, true, false, List, [], ◌∷◌, eqb, ltb, if◌then◌else◌}
 use Rattle.std.proofs.Math.Option.{Option, none, some}
-use Rattle.definition.specs.Text.{if◌then◌else◌, within, utf8}
+use Rattle.definition.specs.Text.{within, utf8}
 use Rattle.definition.specs.Json as json
 use Rattle.definition.specs.Json.{between, sequence, escape, hex, second_escape, second_u, second_hex, bad, close, gives}
 use Rattle.json_string.specs.declared.Place.{Place}

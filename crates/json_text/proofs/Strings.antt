@@ -8,7 +8,8 @@ use lib.ListN.{length, drop, take, get_or}
 use lib.Seq.{drop-drop}
 use lib.Dec.{eqb, ltb, leb}
 use borrow.Author.Tests.{eq-eqb, ne_eqb, eqb-true, eqb-false, lt-ltb, le-ltb, lt-leb, le-leb, leb-true, leb-false}
-use Rattle.definition.specs.Text.{if◌then◌else◌, within, equal}
+use Rattle.std.specs.Prelude.{if◌then◌else◌}
+use Rattle.definition.specs.Text.{within, equal}
 use Rattle.laws.specs.Local.{and_then_both}
 use Rattle.definition.specs.JsonAt.{has_escape}
 use Rattle.definition.specs.Json as json

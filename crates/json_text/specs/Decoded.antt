@@ -1,6 +1,5 @@
 -- What is decoded into a buffer.
-use Rattle.std.specs.Prelude.{◌≡◌, ℕ, ◌+◌, ◌-◌, ◌≤◌, ◌<◌, List, [], ◌∷◌, ◌++◌, ◌||◌, eqb, length, drop, take}
-use Rattle.definition.specs.Text.{if◌then◌else◌}
+use Rattle.std.specs.Prelude.{◌≡◌, ℕ, ◌+◌, ◌-◌, ◌≤◌, ◌<◌, List, [], ◌∷◌, ◌++◌, ◌||◌, eqb, length, drop, take, if◌then◌else◌}
 use Rattle.definition.specs.Json.{Read, got, fault, string, between}
 use Rattle.json_text.specs.Scanned.{fault_of, left}
 use Rattle.json_text.specs.declared.Put.{Put}

@@ -1,6 +1,6 @@
 -- What the types and answers of `listing` mean.
-use Rattle.std.specs.Prelude.{◌≡◌, List, [], ◌∷◌, ℕ, zero, suc, ◌+◌, ◌*◌, ◌≤◌, ◌<◌, Bool, true, false, ◌&&◌, eqb, leb, length, drop, get_or}
-use Rattle.definition.specs.Text.{Text, if◌then◌else◌, equal, smaller}
+use Rattle.std.specs.Prelude.{◌≡◌, List, [], ◌∷◌, ℕ, zero, suc, ◌+◌, ◌*◌, ◌≤◌, ◌<◌, Bool, true, false, ◌&&◌, eqb, leb, length, drop, get_or, if◌then◌else◌}
+use Rattle.definition.specs.Text.{Text, equal, smaller}
 use Rattle.definition.specs.Listing.{Entry, no_entry, directory_entry, file_entry, Span, number32, entry_count, contents_length, found_at, place_at}
 use Rattle.laws.specs.ListingSteps.{part, path_length_at, contents_mark_at, row_by, rows_at}
 use Rattle.listing.specs.declared.Found.{Found}

@@ -8,7 +8,8 @@ use native.Mathlib.Omega.{arith}
 use borrow.Author.Tests.{eqb-true, ltb-true, le-ltb}
 use lib.Dec.{eqb, ltb}
 use lib.ListN.{length, take, get_or}
-use Rattle.definition.specs.Text.{Text, if◌then◌else◌, smaller}
+use Rattle.std.specs.Prelude.{if◌then◌else◌}
+use Rattle.definition.specs.Text.{Text, smaller}
 use Rattle.laws.specs.ListingOrder.{Rise, rise_short, rise_here}
 use Rattle.listing.specs.Meaning.{shared_length, parting_of}
 use Rattle.listing.specs.declared.Parting.{Parting}

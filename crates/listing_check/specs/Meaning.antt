@@ -1,6 +1,6 @@
 -- What the types and answers of `listing_check` mean.
-use Rattle.std.specs.Prelude.{◌≡◌, Bool, true, false, List, ◌∷◌, ℕ, length}
-use Rattle.definition.specs.Text.{Text, if◌then◌else◌}
+use Rattle.std.specs.Prelude.{◌≡◌, Bool, true, false, List, ◌∷◌, ℕ, length, if◌then◌else◌}
+use Rattle.definition.specs.Text.{Text}
 use Rattle.definition.specs.Listing.{Row, no_directory_manifest, passes30, passes31, passes32}
 use Rattle.laws.specs.ListingSteps.{row}
 use Rattle.laws.specs.ListingOrder.{Going, in_order, sized, shallow}

@@ -5,7 +5,7 @@ use mathlib.Core.List.{List}
 use mathlib.Core.Option.{Option, none, some}
 use Prim.Native.Nat.{ℕ, ◌≤◌, ◌<◌}
 use borrow.Author.Tests.{le-leb, lt-leb}
-use Rattle.definition.specs.Text.{if◌then◌else◌}
+use Rattle.std.specs.Prelude.{if◌then◌else◌}
 use Rattle.definition.specs.Specifier.{is_specifier}
 use Rattle.definition.specs.Listing.{is_directory_of, passes30, passes31, passes32}
 use Rattle.definition.specs.Settings.{passes24}

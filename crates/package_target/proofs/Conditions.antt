@@ -9,7 +9,8 @@ use lib.ListN.{length, get_or, set, length-set, drop, drop_of_length-le, length-
 use lib.Seq.{drop-cons}
 use native.Mathlib.Numerals.{add-one}
 use borrow.Author.Tests.{lt-ltb, le-ltb}
-use Rattle.definition.specs.Text.{Text, text, if◌then◌else◌, equal, is_one_of}
+use Rattle.std.specs.Prelude.{if◌then◌else◌}
+use Rattle.definition.specs.Text.{Text, text, equal, is_one_of}
 use Rattle.definition.specs.Settings.{count_of, count_before, all_texts, texts_of}
 use Rattle.laws.specs.TextLaws.{equal_true}
 use Rattle.package_target.specs.Conditions.{place_in, condition_of, Turn}

@@ -9,7 +9,8 @@ use borrow.Author.Tests.{ltb-true, ltb-false, lt-ltb}
 use lib.Dec.{ltb}
 use lib.ListN.{length, drop, get_or, set, replicate, get_or-replicate}
 use lib.Seq.{get_or-set_same, get_or-set_other}
-use Rattle.definition.specs.Text.{Text, if◌then◌else◌, equal}
+use Rattle.std.specs.Prelude.{if◌then◌else◌}
+use Rattle.definition.specs.Text.{Text, equal}
 use Rattle.laws.specs.TextLaws.{equal_true, equal_refl}
 use Rattle.definition.specs.Json.{Json, obj, Members, no_member, member, got, quoted}
 use Rattle.definition.specs.JsonAt.{first_member, next_element, member_value}

@@ -1,7 +1,7 @@
 -- Which condition a name is, and where the last value of a name stands.
-use Rattle.std.specs.Prelude.{◌≡◌, List, [], ◌∷◌, ℕ, suc, ◌≤◌, ◌<◌, ltb, length, get_or, set}
+use Rattle.std.specs.Prelude.{◌≡◌, List, [], ◌∷◌, ℕ, suc, ◌≤◌, ◌<◌, ltb, length, get_or, set, if◌then◌else◌}
 use Rattle.std.proofs.Math.Option.{Option, none, some}
-use Rattle.definition.specs.Text.{Text, text, if◌then◌else◌, equal}
+use Rattle.definition.specs.Text.{Text, text, equal}
 use Rattle.definition.specs.Json.{Json, Members}
 use Rattle.laws.specs.SettledLaws.{last_from}
 use Rattle.package_target.specs.Places.{Written}

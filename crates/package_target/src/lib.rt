@@ -3,9 +3,8 @@
 
 #![tactic(auto)]
 
-ghost use Rattle.std.specs.Prelude.{◌≡◌, List, ℕ, suc, ◌≤◌, ◌<◌, ltb, length, drop, set, replicate};
+ghost use Rattle.std.specs.Prelude.{◌≡◌, List, ℕ, suc, ◌≤◌, ◌<◌, ltb, length, drop, set, replicate, if◌then◌else◌};
 ghost use Rattle.std.proofs.Math.Option.{some};
-ghost use Rattle.definition.specs.Text.{if◌then◌else◌};
 ghost use Rattle.definition.specs.Settings.{texts_of};
 ghost use Rattle.definition.specs.Json.{Json, str, obj, Members, got, quoted};
 ghost use Rattle.definition.specs.JsonAt.{member_value};

@@ -8,7 +8,8 @@ use lib.ListN.{length, drop, take, get_or, length-take}
 use lib.Seq.{take-suc}
 use lib.Dec.{eqb, leb, ltb}
 use borrow.Author.Tests.{ltb-true, ltb-false, leb-true, leb-false, eqb-true, eqb-false}
-use Rattle.definition.specs.Text.{text, slash, if◌then◌else◌, equal, starts_with, equal_ignoring_case, before, text_computes}
+use Rattle.std.specs.Prelude.{if◌then◌else◌}
+use Rattle.definition.specs.Text.{text, slash, equal, starts_with, equal_ignoring_case, before, text_computes}
 use Rattle.laws.specs.TextLaws.{equal_true, starts_with_length}
 use Rattle.laws.specs.TextSteps.{first_inside}
 use Rattle.definition.specs.Path.{path_computes, parent_dir, normal, component, push, parent, pops, Built, built, too_long, and_path, limited, push_component, push_all, push_relative, normalize_with, normalize_relative, invalid_component, any_invalid}

@@ -7,7 +7,8 @@ use native.Mathlib.Omega.{arith}
 use lib.ListN.{length, drop, take, length-drop}
 use lib.Seq.{drop-drop}
 use lib.Dec.{eqb}
-use Rattle.definition.specs.Text.{if◌then◌else◌, star, before, replace}
+use Rattle.std.specs.Prelude.{if◌then◌else◌}
+use Rattle.definition.specs.Text.{star, before, replace}
 use Rattle.laws.specs.SpecifierLaws.{before_take}
 use Rattle.definition.specs.Path.{Built, built, too_long, and_path, limited, add_extension}
 use Rattle.laws.specs.PathLaws.{limited_append}

@@ -9,7 +9,8 @@ use lib.ListN.{length, drop, take, get_or, set, length-append, length-take}
 use lib.Seq.{length-take-le, take-take, get_or-take, take-suc-set}
 use lib.Dec.{leb, ltb}
 use borrow.Author.Tests.{le-leb, lt-leb, le-ltb, lt-ltb, leb-true, leb-false}
-use Rattle.definition.specs.Text.{text, if◌then◌else◌, equal, ends_with, slash, contains, before_last, overwrite}
+use Rattle.std.specs.Prelude.{if◌then◌else◌}
+use Rattle.definition.specs.Text.{text, equal, ends_with, slash, contains, before_last, overwrite}
 use Rattle.definition.specs.Path.{Built, built, too_long, and_path, limited, push, parent, name_of, add_extension, add_name_and_extension}
 use Rattle.laws.specs.TextLaws.{overwrite_upto}
 use Rattle.laws.specs.PathLaws.{limited_fits, limited_long, then_append, push_empty, push_slash, push_plain}

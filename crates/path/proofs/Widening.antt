@@ -9,7 +9,8 @@ use borrow.Author.Tests.{lt-ltb, le-ltb, leb-true, leb-false}
 use lib.Dec.{eqb, leb, ltb}
 use lib.ListN.{length, drop, take, set, get_or, length-append, length-set, length-take, drop_of_length-le}
 use lib.Seq.{drop-cons, take-suc-set, length-take-le}
-use Rattle.definition.specs.Text.{text, if◌then◌else◌, starts_with, trail, utf8}
+use Rattle.std.specs.Prelude.{if◌then◌else◌}
+use Rattle.definition.specs.Text.{text, starts_with, trail, utf8}
 use Rattle.laws.specs.TextLaws.{and_true, starts_with_length}
 use Rattle.definition.specs.Path.{Built, built, too_long, and_path, limited, add_extension}
 use Rattle.laws.specs.PathLaws.{limited_fits, limited_append}

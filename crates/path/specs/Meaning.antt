@@ -1,6 +1,5 @@
 -- What a path under construction means: the first n of its 2,048 bytes, or refusal 42 where n is more.
-use Rattle.std.specs.Prelude.{◌≡◌, ℕ, ◌+◌, ◌≤◌, List, Bool, true, false, take, leb}
-use Rattle.definition.specs.Text.{if◌then◌else◌}
+use Rattle.std.specs.Prelude.{◌≡◌, ℕ, ◌+◌, ◌≤◌, List, Bool, true, false, take, leb, if◌then◌else◌}
 use Rattle.definition.specs.Path.{Built, built, too_long}
 use Rattle.laws.specs.PathLaws.{room}
 use Rattle.path.specs.declared.PathBuf.{PathBuf}

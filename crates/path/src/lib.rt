@@ -2,9 +2,9 @@
 
 #![tactic(auto)]
 
-ghost use Rattle.std.specs.Prelude.{◌≡◌, ◌&&◌, ◌||◌, true, ◌+◌, ◌≤◌, ◌<◌, eqb, length, take, drop, get_or};
+ghost use Rattle.std.specs.Prelude.{◌≡◌, ◌&&◌, ◌||◌, true, ◌+◌, ◌≤◌, ◌<◌, eqb, length, take, drop, get_or, if◌then◌else◌};
 ghost use mathlib.Core.List.{[], ◌++◌, flat_map};
-ghost use Rattle.definition.specs.Text.{text, star, if◌then◌else◌, equal, starts_with, replace, utf8};
+ghost use Rattle.definition.specs.Text.{text, star, equal, starts_with, replace, utf8};
 ghost use Rattle.definition.specs.Path.{built, and_path, limited, push, parent, add_extension, add_name_and_extension, manifest_of, name_of, component, push_all, normalize_with, pops, push_relative, normalize_relative, any_invalid, is_invalid_exports_target};
 ghost use Rattle.definition.specs.Specifier.{unescape};
 ghost use Rattle.laws.specs.PathLaws.{parts, root_of};

@@ -7,7 +7,8 @@ use native.Mathlib.Omega.{arith}
 use borrow.Author.Tests.{le-leb}
 use lib.Dec.{leb}
 use lib.ListN.{length, take, length-append, length-drop}
-use Rattle.definition.specs.Text.{Text, text, if◌then◌else◌, equal, ends_with, contains_text}
+use Rattle.std.specs.Prelude.{if◌then◌else◌}
+use Rattle.definition.specs.Text.{Text, text, equal, ends_with, contains_text}
 use Rattle.definition.specs.Path.{built, too_long, and_path, limited, normalize_relative}
 use Rattle.definition.specs.Specifier.{package_name, package_subpath, normalized_specifier, climbing}
 use Rattle.laws.specs.TextLaws.{equal_true}

@@ -8,7 +8,8 @@ use borrow.Author.Tests.{eqb-true, eqb-false}
 use lib.Dec.{eqb}
 use lib.ListN.{length, drop, take, length-take}
 use lib.Seq.{take-take, length-take-le}
-use Rattle.definition.specs.Text.{if◌then◌else◌, question, hash, before, from}
+use Rattle.std.specs.Prelude.{if◌then◌else◌}
+use Rattle.definition.specs.Text.{question, hash, before, from}
 use Rattle.laws.specs.TextSteps.{before_inside}
 use Rattle.definition.specs.Path.{limited}
 use Rattle.definition.specs.Specifier.{parsed, empty_specifier, before_fragment, body, unescape, path_before, or_empty, parse_specifier}

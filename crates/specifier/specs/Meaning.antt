@@ -1,7 +1,7 @@
 -- What the answers of the functions mean.
-use Rattle.std.specs.Prelude.{◌≡◌, ℕ, Bool, length, drop, take}
+use Rattle.std.specs.Prelude.{◌≡◌, ℕ, Bool, length, drop, take, if◌then◌else◌}
 use mathlib.Core.List.{List, [], ◌∷◌, flat_map}
-use Rattle.definition.specs.Text.{if◌then◌else◌, hash, contains_text, utf8}
+use Rattle.definition.specs.Text.{hash, contains_text, utf8}
 use Rattle.definition.specs.Path.{Built, limited}
 use Rattle.definition.specs.Specifier.{Specifier, parsed, empty_specifier, body, unescape}
 use Rattle.specifier.specs.declared.Specifier.{Specifier as Answer}

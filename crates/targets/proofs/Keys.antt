@@ -11,7 +11,8 @@ use lib.ListN.{length, drop, take, length-drop}
 use lib.Seq.{take_all, take-append_seam}
 use lib.Dec.{eqb, leb, is_le, compare_is_eq}
 use borrow.Author.Tests.{eqb-true, eqb-false, leb-true, leb-false, le-leb, lt-leb, ne_eqb, eq-eqb}
-use Rattle.definition.specs.Text.{text, if◌then◌else◌, star, equal, starts_with, ends_with, contains, before, after}
+use Rattle.std.specs.Prelude.{if◌then◌else◌}
+use Rattle.definition.specs.Text.{text, star, equal, starts_with, ends_with, contains, before, after}
 use Rattle.laws.specs.TextLaws.{and_true, starts_with_length, before_after}
 use Rattle.laws.specs.PathSteps.{not_contains}
 use Rattle.definition.specs.Exports.{base_length, greater_first, PATTERN_KEY_COMPARE, is_subpath_key, star_match, pattern_match}

@@ -7,7 +7,8 @@ use native.Mathlib.Omega.{arith}
 use lib.ListN.{length, take, drop, get_or, length-append, length-take}
 use lib.Dec.{eqb, ltb}
 use borrow.Author.Tests.{lt-ltb}
-use Rattle.definition.specs.Text.{text, if◌then◌else◌, hash, question, contains_text, starts_with, before, from, utf8, trail}
+use Rattle.std.specs.Prelude.{if◌then◌else◌}
+use Rattle.definition.specs.Text.{text, hash, question, contains_text, starts_with, before, from, utf8, trail}
 use Rattle.laws.specs.TextSteps.{before_inside}
 use Rattle.definition.specs.Path.{limited}
 use Rattle.definition.specs.Specifier.{Specifier, parsed, empty_specifier, body, unescape, path_before, or_empty, parse_specifier}

@@ -1,7 +1,7 @@
 -- What the answers of a resolution mean.
-use Rattle.std.specs.Prelude.{◌≡◌, ℕ, true, false, List, take}
+use Rattle.std.specs.Prelude.{◌≡◌, ℕ, true, false, List, take, if◌then◌else◌}
 use Rattle.std.proofs.Math.Option.{Option, none, some}
-use Rattle.definition.specs.Text.{text, if◌then◌else◌, star, contains, starts_with, ends_with}
+use Rattle.definition.specs.Text.{text, star, contains, starts_with, ends_with}
 use Rattle.definition.specs.Path.{manifest_of}
 use Rattle.definition.specs.Exports as exports
 use Rattle.definition.specs.Exports.{Request, found, nothing, failed, overlong, InvalidPackageTarget, InvalidPackageConfig, InvalidPackageConfigDirectory, normalize_string_target, target_path, invalid_target, path_not_exported, or_dot}

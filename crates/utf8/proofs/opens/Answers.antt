@@ -4,7 +4,8 @@ use Prim.Native.Nat.{ℕ, ◌<◌}
 use native.Mathlib.Omega.{arith}
 use lib.Dec.{eqb}
 use borrow.Author.Tests.{lt-ltb, le-ltb, eq-eqb, ne_eqb}
-use Rattle.definition.specs.Text.{if◌then◌else◌, within, due, bad, due_after}
+use Rattle.std.specs.Prelude.{if◌then◌else◌}
+use Rattle.definition.specs.Text.{within, due, bad, due_after}
 use Rattle.laws.specs.TextSteps.{within_yes, within_low, within_high}
 use Rattle.utf8.proofs.opens.Goals as goal
 
