@@ -454,7 +454,8 @@ fn main(rt: HostRuntime) -> io::Result<()> {
     report(&rt, "limits", limits(), 8)?;
     // names with dots and beyond ASCII, an empty manifest, a name that "/" sorts before, a longer name than package.json
     report(
-        &rt, "accepted",
+        &rt,
+        "accepted",
         cases(
             b"d/\n;d/\nf/...\nf/..a\nf/.a\n;d/\nf/\xc3\xa9\nf/\xf0\x9f\x98\x80\n;d/\nf/package.json\n;d/\nd/a\nf/a-b\nf/a/b\n;d/\nd/xpackage.json\n;",
             0,
@@ -463,7 +464,8 @@ fn main(rt: HostRuntime) -> io::Result<()> {
     )?;
     // no entry; contents elsewhere than in a manifest, alone and beside 31 and 32
     report(
-        &rt, "30",
+        &rt,
+        "30",
         cases(
             b";d/\nf/a=x\n;d/\nf/xpackage.json=x\n;d/\nf/b\nf/a=x\n;d/\nf/a=x\nd/package.json\n;",
             30,
@@ -472,7 +474,8 @@ fn main(rt: HostRuntime) -> io::Result<()> {
     )?;
     // the first entry; empty, relative, "/" at the end or twice; dots; byte 0; not UTF-8
     report(
-        &rt, "31, paths",
+        &rt,
+        "31, paths",
         cases(
             b"d/a\n;f/\n;f\n;d/\nf\n;d/\nfa\n;d/\nd/a\nd/a/\n;d/\nf//a\n;d/\nd/a\nf/a//b\n;d/\nd/.\n;d/\nd/..\n;d/\nd/a\nf/a/.\n;d/\nd/a\nd/a/..\n;d/\nf/a\x00b\n;d/\nf/\xff\n;d/\nf/a\xc3\n;d/\nf/\xed\xa0\x80\n;",
             31,
@@ -481,7 +484,8 @@ fn main(rt: HostRuntime) -> io::Result<()> {
     )?;
     // order; twice the same; no parent; a file as parent; all beside 32
     report(
-        &rt, "31, order",
+        &rt,
+        "31, order",
         cases(
             b"d/\nf/b\nf/a\n;d/\nf/a\nf/a\n;d/\nd/\n;d/\nd/ab\nf/a/c\n;d/\nf/a/b\n;d/\nd/a\nd/a/b\nf/ab\nf/b/c\n;d/\nd/a\nf/a/b/c\n;d/\nf/a\nf/a/b\n;d/\nd/a\nf/a-b\nf/a-b/c\n;d/\nd/package.json\nd/a\n;",
             31,
@@ -489,7 +493,8 @@ fn main(rt: HostRuntime) -> io::Result<()> {
         10,
     )?;
     report(
-        &rt, "32",
+        &rt,
+        "32",
         cases(
             b"d/\nd/package.json\n;d/\nd/a\nd/a/package.json\n;d/\nd/package.json\nf/package.json/a\n;",
             32,
@@ -497,7 +502,8 @@ fn main(rt: HostRuntime) -> io::Result<()> {
         3,
     )?;
     report(
-        &rt, "search",
+        &rt,
+        "search",
         searches_of(
             printed,
             0,
@@ -507,7 +513,8 @@ fn main(rt: HostRuntime) -> io::Result<()> {
     )?;
     // where bytes are missing, an entry ends where they end, and missing lengths count as zeros
     report(
-        &rt, "search, cut in contents",
+        &rt,
+        "search, cut in contents",
         searches_of(
             printed,
             10,
@@ -516,7 +523,8 @@ fn main(rt: HostRuntime) -> io::Result<()> {
         4,
     )?;
     report(
-        &rt, "search, cut in a path",
+        &rt,
+        "search, cut in a path",
         searches_of(
             printed,
             40,
@@ -526,28 +534,33 @@ fn main(rt: HostRuntime) -> io::Result<()> {
     )?;
     // the arrays: a first mark that is whole, one byte short, and missing
     report(
-        &rt, "search, cut in marks",
+        &rt,
+        "search, cut in marks",
         searches_of(printed, 180, b"1\n0/\n0/p\n"),
         3,
     )?;
     report(
-        &rt, "search, cut in a mark",
+        &rt,
+        "search, cut in a mark",
         searches_of(printed, 181, b"2\n0/\n"),
         2,
     )?;
     report(
-        &rt, "search, cut in lengths",
+        &rt,
+        "search, cut in lengths",
         searches_of(printed, 190, b"2\n0/\n0/p\n"),
         3,
     )?;
     // paths that do not rise: the first path not below the one sought decides
     report(
-        &rt, "search, falling",
+        &rt,
+        "search, falling",
         searches_of(b"d/\nf/c\nf/b\nf/a\n", 0, b"1/\n2/c\n0/b\n0/a\n0/d\n"),
         5,
     )?;
     report(
-        &rt, "search, equal paths",
+        &rt,
+        "search, equal paths",
         searches_of(
             b"d/\nf/a=x\nf/a=y\nd/b\nf/b=z\nf/a=x\n",
             0,
@@ -556,7 +569,8 @@ fn main(rt: HostRuntime) -> io::Result<()> {
         3,
     )?;
     report(
-        &rt, "search, beginnings",
+        &rt,
+        "search, beginnings",
         searches_of(
             b"f/ab=x\nf/a=y\nf/abc=z\n",
             0,
@@ -565,18 +579,21 @@ fn main(rt: HostRuntime) -> io::Result<()> {
         5,
     )?;
     report(
-        &rt, "search, empty paths first",
+        &rt,
+        "search, empty paths first",
         searches_of(b"f=x\nf=y\nd/\n", 0, b"2=x\n1/\n"),
         2,
     )?;
     report(
-        &rt, "search, an empty path last",
+        &rt,
+        "search, an empty path last",
         searches_of(b"d/\nf=x\n", 0, b"0\n1/\n"),
         2,
     )?;
     // over 32 bytes in common
     report(
-        &rt, "search, far in common",
+        &rt,
+        "search, far in common",
         searches_of(
             b"f/p/node_modules/element-beam/lib/b.js=x\nf/p/node_modules/element-beam/lib/a.js=y\nf/p/node_modules/element-beam/lib/c.js=z\n",
             0,

@@ -267,35 +267,40 @@ fn stays_over(a: &[u8]) -> usize {
 
 fn paths(rt: &impl Print) -> io::Result<()> {
     report(
-        rt, "path.rs",
+        rt,
+        "path.rs",
         rows(
             b"x|../a.js|invalid\nx|../|invalid\nx|./a/b/../../../c.js|invalid\nx|./a/b/../../../|invalid\nx|./../../c.js|invalid\nx|./../../|invalid\nx|./a/../b/../../c.js|invalid\nx|./a/../b/../../|invalid\nx|./././../|invalid\nx|C:|\nx|/|\nr|foo/../../foo/|../foo\nr|foo/.././foo/|foo\nr|foo../../..|..\nr|jest-runner-../../|\n",
         ),
         15,
     )?;
     report(
-        rt, "01",
+        rt,
+        "01",
         rows(
             b"r|a/../../b|../b\nr|a/../../../b|b\nx|./a/./b.js|\nx|./a/../b|invalid\nx|./NODE_MODULES/a|invalid\n",
         ),
         5,
     )?;
     report(
-        rt, "components",
+        rt,
+        "components",
         rows(
             b"x||\nx|.|\nx|..|invalid\nx|./a..|\nx|./.../b|\nx|node_modules|invalid\nx|./a/Node_Modules|invalid\nx|./node_modules_|\nx|/node_modules|invalid\nx|./a//b|\nr||\nr|.|\nr|./|\nr|/|/\nr|//|/\nr|/..|/..\nr|/a/..|/\nr|/../..|/\nr|../..|\nr|../../..|..\nr|./a/./b/|a/b\nr|a//b|a/b\nr|/./a|/a\n",
         ),
         23,
     )?;
     report(
-        rt, "normalize_with",
+        rt,
+        "normalize_with",
         rows(
             b"w|/a|./b|/a/b\nw|/a|b|/a/b\nw|/a/b|../c|/a/c\nw|/a|../../b|/b\nw|/|..|/\nw|/|a|/a\nw|/|./a/..|/\nw|/a|.|/a\nw|/a|./|/a\nw|/a|b//c/|/a/b/c\nw|/a|b/./c|/a/b/c\nw|/a|.b|/a/.b\nw|/a|..b|/a/..b\nw|/a|/x/../y|/x/../y\nw|/a||\nw||a|a\nw|a|..|\nw|a|../b|b\n",
         ),
         18,
     )?;
     report(
-        rt, "methods",
+        rt,
+        "methods",
         rows(
             b"+||a|a\n+|/|a|/a\n+|/a|b|/a/b\n+|/a/|b|/a/b\n+|/a||/a/\n-|/a/b|/a\n-|/a|/\n-|/|/\n-|a|\n-|a/b|a\n-||\n.|/a|.js|/a.js\n.|||\ne|/a|.js|/a.js\ne|||\ni|/a|index|.js|/a/index.js\ni|/|index|.js|//index.js\nm|/a|/a/package.json\nm|/|/package.json\np|/a/b|/a\np|/a|/\np|/|/\np|a|\np||\nn|/a/b|b\nn|/a|a\nn|a|a\nn|/|\n",
         ),
@@ -305,33 +310,38 @@ fn paths(rt: &impl Print) -> io::Result<()> {
 
 fn package_names(rt: &impl Print) -> io::Result<()> {
     report(
-        rt, "name and subpath",
+        rt,
+        "name and subpath",
         rows(
             b"s|||\ns|a|a|\ns|a/|a|/\ns|a/b/c|a|/b/c\ns|/a||/a\ns|a\\b|a\\b|\ns|@a/b/c|@a/b|/c\ns|@a|@a|\ns|@|@|\ns|@/|@/|\ns|@a/b|@a/b|\ns|@a//b|@a/|/b\n",
         ),
         12,
     )?;
     report(
-        rt, "dotted subpath",
+        rt,
+        "dotted subpath",
         rows(b"d||.\nd|/c|./c\nd|./c|./c\nd|\\c|.\\c\nd|/345678|./345678\nd|/3456789|./3456789\n"),
         6,
     )?;
     report(
-        rt, "package name stripped",
+        rt,
+        "package name stripped",
         rows(
             b"t|a|a|\nt|a/b|a|/b\nt|a\\b|a|\\b\nt|@a/b/c|@a/b|/c\nt|/b||/b\nt|ab|a|kept\nt|a|ab|kept\nt|b/a|a|kept\nt|a||kept\n",
         ),
         9,
     )?;
     report(
-        rt, "question's specifier",
+        rt,
+        "question's specifier",
         rows(
             b"b|a|bare\nb|@|bare\nb|@a/b|bare\nb|a/|bare\nb|\\|bare\nb|...|bare\nb|.a/b|bare\nb|a/../../b|bare\nb|\xC3\xA9#?|bare\nb||\nb|.|\nb|..|\nb|./a|\nb|../a|\nb|/a|\nb|#a|\nb|a\x00b|\nb|a\xC3|\n",
         ),
         18,
     )?;
     report(
-        rt, "second walk",
+        rt,
+        "second walk",
         rows(
             b"c|a/../../b|../b|up\nc|a/../../../b|b|\nc|a/../../b/|../b/|up\nc|a/../..|..|up\nc|a/../b|b|\nc|a/b/../../c|c|\nc|@a/b/../../../c|../c|up\n",
         ),
@@ -341,28 +351,32 @@ fn package_names(rt: &impl Print) -> io::Result<()> {
 
 fn specifiers(rt: &impl Print) -> io::Result<()> {
     report(
-        rt, "path, query, fragment",
+        rt,
+        "path, query, fragment",
         rows(
             b"q|./a|./a||\nq|./a?b|./a|?b|\nq|./a#b|./a||#b\nq|./a?b#c|./a|?b|#c\nq|\xC3\xA9?\xC3\xA9|\xC3\xA9|?\xC3\xA9|\n",
         ),
         5,
     )?;
     report(
-        rt, "marks in front and again",
+        rt,
+        "marks in front and again",
         rows(
             b"q|./a#b?c|./a||#b?c\nq|./a?b?c#d#e|./a|?b?c|#d#e\nq|#a#b|#a||#b\nq|#|#||\nq|./?#|./|?|#\n",
         ),
         5,
     )?;
     report(
-        rt, "escaped",
+        rt,
+        "escaped",
         rows(
             b"q|./x\x00#y|./x#y||\nq|\x00#|#||\nq|./a\x00#b#c|./a#b||#c\nq|./\xC3\xA9\x00#|./\xC3\x83\xC2\xA9#||\n",
         ),
         4,
     )?;
     report(
-        rt, "zero bytes that escape nothing",
+        rt,
+        "zero bytes that escape nothing",
         rows(
             b"q|./a?b\x00#c|./a|?b\x00#c|\nq|./a\x00b|./a\x00b||\nq|./a\x00?b|./a\x00|?b|\nq|\xC3\xA9?\x00#|\xC3\x83\xC2\xA9|?\x00#|\n",
         ),

@@ -223,7 +223,8 @@ fn fills() -> usize {
 fn utf8(rt: &impl Print) -> io::Result<()> {
     report(rt, "utf8, each byte alone", single_bytes(), 256)?;
     report(
-        rt, "utf8, the examples of RFC 3629",
+        rt,
+        "utf8, the examples of RFC 3629",
         utf8_rows(
             b"\x07A\xE2\x89\xA2\xCE\x91.\x09\xED\x95\x9C\xEA\xB5\xAD\xEC\x96\xB4\x09\xE6\x97\xA5\xE6\x9C\xAC\xE8\xAA\x9E\x07\xEF\xBB\xBF\xF0\xA3\x8E\xB4",
             true,
@@ -231,7 +232,8 @@ fn utf8(rt: &impl Print) -> io::Result<()> {
         4,
     )?;
     report(
-        rt, "utf8, first and last of each form",
+        rt,
+        "utf8, first and last of each form",
         utf8_rows(
             b"\x01\x00\x01\x7F\x02\xC2\x80\x02\xDF\xBF\x03\xE0\xA0\x80\x03\xE0\xBF\xBF\x03\xE1\x80\x80\x03\xEC\xBF\xBF\x03\xED\x80\x80\x03\xED\x9F\xBF\x03\xEE\x80\x80\x03\xEF\xBF\xBF\x04\xF0\x90\x80\x80\x04\xF0\xBF\xBF\xBF\x04\xF1\x80\x80\x80\x04\xF3\xBF\xBF\xBF\x04\xF4\x80\x80\x80\x04\xF4\x8F\xBF\xBF\x00\x04a\xC3\xA9b\x07\xF0\x9F\x98\x80\xE2\x82\xAC",
             true,
@@ -239,14 +241,16 @@ fn utf8(rt: &impl Print) -> io::Result<()> {
         21,
     )?;
     report(
-        rt, "utf8, cut off",
+        rt,
+        "utf8, cut off",
         cut_rows(
             b"\x02\xC2\x80\x02\xDF\xBF\x03\xE0\xA0\x80\x03\xE0\xBF\xBF\x03\xE1\x80\x80\x03\xEC\xBF\xBF\x03\xED\x80\x80\x03\xED\x9F\xBF\x03\xEE\x80\x80\x03\xEF\xBF\xBF\x04\xF0\x90\x80\x80\x04\xF0\xBF\xBF\xBF\x04\xF1\x80\x80\x80\x04\xF3\xBF\xBF\xBF\x04\xF4\x80\x80\x80\x04\xF4\x8F\xBF\xBF",
         ),
         16,
     )?;
     report(
-        rt, "utf8, overlong",
+        rt,
+        "utf8, overlong",
         utf8_rows(
             b"\x02\xC0\x80\x02\xC1\xBF\x03\xE0\x80\x80\x03\xE0\x9F\xBF\x04\xF0\x80\x80\x80\x04\xF0\x8F\xBF\xBF",
             false,
@@ -254,7 +258,8 @@ fn utf8(rt: &impl Print) -> io::Result<()> {
         6,
     )?;
     report(
-        rt, "utf8, surrogates",
+        rt,
+        "utf8, surrogates",
         utf8_rows(
             b"\x03\xED\xA0\x80\x03\xED\xAF\xBF\x03\xED\xB0\x80\x03\xED\xBF\xBF\x06\xED\xA0\x80\xED\xB0\x80",
             false,
@@ -262,7 +267,8 @@ fn utf8(rt: &impl Print) -> io::Result<()> {
         5,
     )?;
     report(
-        rt, "utf8, past the last character",
+        rt,
+        "utf8, past the last character",
         utf8_rows(
             b"\x04\xF4\x90\x80\x80\x04\xF4\xBF\xBF\xBF\x04\xF5\x80\x80\x80\x04\xF7\xBF\xBF\xBF\x05\xF8\x88\x80\x80\x80\x06\xFC\x84\x80\x80\x80\x80\x02\xFE\xFF\x02\xFF\xFE",
             false,
@@ -270,7 +276,8 @@ fn utf8(rt: &impl Print) -> io::Result<()> {
         8,
     )?;
     report(
-        rt, "utf8, out of place",
+        rt,
+        "utf8, out of place",
         utf8_rows(
             b"\x01\x80\x01\xBF\x02A\x80\x02\xC2A\x02\xC2\xC0\x03\xC2\x80\x80\x03\xE1A\x80\x03\xE1\x80A\x03\xE1\x80\xC0\x04\xF1A\x80\x80\x04\xF1\x80A\x80\x04\xF1\x80\x80A\x04\xF0\x90A\x80\x04\xF4\x8F\x80A\x03\xE2\x82A\x03ab\xC3",
             false,
@@ -281,35 +288,40 @@ fn utf8(rt: &impl Print) -> io::Result<()> {
 
 fn tests(rt: &impl Print) -> io::Result<()> {
     report(
-        rt, "equal",
+        rt,
+        "equal",
         pair_rows(
             b"=y\x00\x00=y\x03\x03abcabc=n\x03\x03abcabd=n\x03\x02abcab=n\x00\x01a=n\x03\x03abcAbc",
         ),
         6,
     )?;
     report(
-        rt, "equal but for the case",
+        rt,
+        "equal but for the case",
         pair_rows(
             b"~y\x0C\x0Cnode_modulesNODE_Modules~y\x06\x06@AZaz[@azAZ[~n\x01\x01@`~n\x01\x01[{~n\x02\x03ababc~y\x00\x00~n\x02\x02\xC3\x89\xC3\xA9",
         ),
         7,
     )?;
     report(
-        rt, "order",
+        rt,
+        "order",
         pair_rows(
             b"<n\x00\x00<y\x00\x01a<n\x01\x00a<y\x02\x03ababc<n\x03\x02abcab<y\x03\x03abcabd<n\x03\x03abdabc<n\x03\x03abcabc<y\x02\x02a\x7Fa\x80<y\x03\x03a-ba/b<y\x01\x01Ba<y\x03\x01abzb",
         ),
         12,
     )?;
     report(
-        rt, "start and end",
+        rt,
+        "start and end",
         pair_rows(
             b"^y\x03\x02abcab^y\x03\x00abc^y\x03\x03abcabc^n\x03\x04abcabcd^n\x03\x01abcb^n\x00\x01a$y\x03\x02abcbc$y\x03\x00abc$y\x03\x03abcabc$n\x03\x04abczabc$n\x03\x01abcb$n\x00\x01a",
         ),
         12,
     )?;
     report(
-        rt, "text in a text",
+        rt,
+        "text in a text",
         pair_rows(
             b"*y\x00\x00*y\x03\x00abc*n\x00\x01a*y\x03\x02aabab*y\x03\x01abcc*n\x03\x02abcac*n\x02\x03ababc*y\x10\x0Ea/node_modules/b/node_modules/",
         ),
@@ -319,14 +331,16 @@ fn tests(rt: &impl Print) -> io::Result<()> {
 
 fn places(rt: &impl Print) -> io::Result<()> {
     report(
-        rt, "places and counts of a byte",
+        rt,
+        "places and counts of a byte",
         byte_rows(
             b"#a\x00\x00#a\x03\x06banana#z\x00\x06banana>a\x01\x06banana>b\x00\x06banana>z\x06\x06banana>z\x00\x002a\x03\x06banana2n\x02\x06banana2b\x06\x06banana2b\x02\x01b?n\x01\x06banana?z\x00\x06banana?z\x00\x00<a\x05\x06banana<b\x00\x06banana<n\x04\x06banana<z\x06\x06banana<z\x00\x00",
         ),
         19,
     )?;
     report(
-        rt, "copy",
+        rt,
+        "copy",
         copy_rows(
             b"\x00\x03XYZXYZdefgh\x05\x03XYZabcdeXYZ\x06\x03XYZabcdefXY\x07\x03XYZabcdefgX\x08\x03XYZabcdefgh\xC8\x03XYZabcdefgh\x03\x00abcdefgh\x00\x0AABCDEFGHIJABCDEFGH\x02\x0AABCDEFGHIJabABCDEF",
         ),
