@@ -36,14 +36,12 @@ fn put_number(l: &mut [u8], at: usize, x: usize)
 // The text at a place; the place behind it.
 fn put_text(l: &mut [u8], from: usize, s: &[u8]) -> usize {
     let mut at = from;
-    let mut i = 0;
-    while i < s.len() {
+    for b in s {
         if at >= l.len() {
             return at;
         }
-        l[at] = s[i];
+        l[at] = *b;
         at += 1;
-        i += 1;
     }
     at
 }
@@ -106,8 +104,7 @@ fn build(l: &mut [u8], lines: &[u8]) -> usize {
     }
     let mut at = 8 + 8 * n;
     let mut from = 0;
-    let mut i = 0;
-    while i < n {
+    for i in 0..n {
         let end = text::find(lines, b'\n', from);
         if end < from {
             return 0;
@@ -117,7 +114,6 @@ fn build(l: &mut [u8], lines: &[u8]) -> usize {
         }
         at = put_line(l, n, i, at, &lines[from..end]);
         from = end + 1;
-        i += 1;
     }
     put_sizes(l, n, at);
     at
@@ -163,14 +159,12 @@ fn cases(table: &[u8], wanted: u8) -> usize {
 }
 
 fn cut_off(l: &[u8], end: usize) -> usize {
-    let mut n: usize = 0;
-    while n < end {
+    for n in 0..end {
         if number_of(l, n) != 30 {
             return n;
         }
-        n += 1;
     }
-    n
+    end
 }
 
 // A good listing, and what is left of it cut off behind each of its bytes.
@@ -201,11 +195,9 @@ fn put_nested(l: &mut [u8], n: usize) -> usize
 {
     let path = *b"/a/a/a/a/a/a/a/a/a/a/a/a/a/a/a/a/a/a/a/a/a/a/a/a/a/a/a/a/a/a/a/a/a/a/a/a";
     let mut at = put_entry(l, n, 0, 8 + 8 * n, b'd', b"/", b"");
-    let mut i: usize = 1;
-    while i < n {
+    for i in 1..n {
         let size = 2 * i;
         at = put_entry(l, n, i, at, b'd', &path[0..size], b"");
-        i += 1;
     }
     put_sizes(l, n, at);
     at
@@ -232,10 +224,8 @@ fn put_files(l: &mut [u8], n: usize) -> usize
     requires { n < 1500 }
 {
     let mut at = put_entry(l, n, 0, 8 + 8 * n, b'd', b"/", b"");
-    let mut i: usize = 1;
-    while i < n {
+    for i in 1..n {
         at = put_file(l, n, i, at);
-        i += 1;
     }
     put_sizes(l, n, at);
     at
