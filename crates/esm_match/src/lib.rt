@@ -1,4 +1,7 @@
 // RESOLVE_ESM_MATCH of lib.rs, over a lent listing: a path that an exports field gave, as a file or as a directory.
+
+#![tactic(auto)]
+
 ghost use Rattle.std.specs.Prelude.{◌≤◌, length};
 ghost use Rattle.definition.specs.Settings.{settings_of};
 ghost use Rattle.definition.specs.Called.{seen_by};

@@ -1,5 +1,8 @@
 // PACKAGE_EXPORTS_RESOLVE and PACKAGE_IMPORTS_EXPORTS_RESOLVE of the Node.js documents, as lib.rs has them: the keys of an exports map, and the one
 // whose target is resolved.
+
+#![tactic(auto)]
+
 ghost use Rattle.std.specs.Prelude.{◌≡◌, List, ℕ, ◌≤◌, ◌<◌, length, drop, ◌&&◌, ◌||◌};
 ghost use Rattle.definition.specs.Settings.{texts_of, settings_of};
 ghost use Rattle.std.proofs.Math.Option.{Option, none};

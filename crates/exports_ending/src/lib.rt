@@ -1,5 +1,8 @@
 // How an exports field ends the lookup where it gives no path: the errors of PACKAGE_EXPORTS_RESOLVE and PACKAGE_TARGET_RESOLVE, with the
 // texts that they name.
+
+#![tactic(auto)]
+
 ghost use Rattle.std.specs.Prelude.{◌≡◌, List, [], ℕ, ◌≤◌, leb, length};
 ghost use Rattle.definition.specs.Path.{manifest_of};
 ghost use Rattle.definition.specs.Exports.{Context, or_dot};

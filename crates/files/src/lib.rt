@@ -1,4 +1,7 @@
 // LOAD_AS_FILE and LOAD_INDEX of lib.rs.
+
+#![tactic(auto)]
+
 ghost use Rattle.std.specs.Prelude.{[], ◌+◌, get_or};
 ghost use Rattle.definition.specs.Text.{text};
 ghost use Rattle.definition.specs.Settings.{Settings, texts_of, settings_of};

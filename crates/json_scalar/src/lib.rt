@@ -1,4 +1,7 @@
 // What stands between the strings and brackets of RFC 8259: white space, numbers, null, true and false, commas, colons and closing brackets.
+
+#![tactic(auto)]
+
 ghost use Rattle.std.specs.Prelude.{◌≡◌, drop};
 ghost use Rattle.definition.specs.Text.{is_digit};
 ghost use Rattle.definition.specs.Json.{is_space, skip_space, skip_digits, digits as digitsOf, starts_value, sign as sign_of, exponent as exponentOf, fraction as fractionOf, integer as integerOf, word as word_of};

@@ -1,4 +1,7 @@
 // The automaton that reads the bytes of a string of RFC 8259 behind its opening quote, one by one: UTF-8 sequences, escapes, surrogate pairs.
+
+#![tactic(auto)]
+
 ghost use Rattle.std.specs.Prelude.{◌≡◌, ◌≤◌, ◌<◌};
 ghost use Rattle.definition.specs.Text.{within, hex_digit};
 ghost use Rattle.definition.specs.Json.{plain_byte, escape_byte, unit as unit_of, pair as pair_of, hex_byte, second_hex_byte, step as stepBy, sequence};

@@ -1,4 +1,7 @@
 // Theorems and laws stand in specs/. This crate has no code of its own; a library needs a function, and this is it.
+
+#![tactic(auto)]
+
 ghost use Rattle.std.specs.Prelude.{◌≡◌};
 
 pub fn none() -> u64

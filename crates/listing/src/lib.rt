@@ -2,6 +2,9 @@
 //
 // On the way of a search a slice is passed on as `&*x`, which goes in registers. Passed on as `x`, the parameter itself stands in memory, the
 // compiler cannot see that the path's address is not kept, and whoever built the path by value copies its 2 KiB.
+
+#![tactic(auto)]
+
 ghost use Rattle.std.specs.Prelude.{◌≡◌, ◌&&◌, true, false, List, ℕ, ◌+◌, ◌-◌, ◌*◌, ◌≤◌, ◌<◌, min, length, drop, get_or, leb};
 ghost use Rattle.definition.specs.Text.{equal, smaller};
 ghost use Rattle.definition.specs.Listing.{no_entry, number32, entry_count, contents_length, is_directory_of, found_at, place_at};

@@ -1,4 +1,7 @@
 // The check of a lent listing: 30, 31 and 32, each over all entries. Every public function takes any bytes.
+
+#![tactic(auto)]
+
 ghost use Rattle.std.specs.Prelude.{◌≡◌, true, ◌&&◌, ◌+◌, ◌≤◌, ◌<◌, max, length};
 ghost use Rattle.definition.specs.Text.{all};
 ghost use Rattle.definition.specs.Listing.{rows, sizes_fit, first_is_root};

@@ -1,4 +1,7 @@
 // What the check of a lent listing asks of its sizes, of one entry and of one path. Every public function takes any bytes.
+
+#![tactic(auto)]
+
 ghost use Rattle.std.specs.Prelude.{◌≡◌, Bool, true, ◌&&◌, ◌+◌, ◌*◌, ◌≤◌, ltb, length};
 ghost use Rattle.definition.specs.Listing.{entry_count, sizes_fit, is_manifest, is_component};
 ghost use Rattle.laws.specs.ListingSteps.{lengths_at};

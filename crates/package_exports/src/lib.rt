@@ -1,4 +1,7 @@
 // LOAD_PACKAGE_EXPORTS and LOAD_PACKAGE_SELF of lib.rs, over a lent listing.
+
+#![tactic(auto)]
+
 ghost use Rattle.std.specs.Prelude.{◌≤◌, length, drop};
 ghost use Rattle.definition.specs.Path.{manifest_of};
 ghost use Rattle.definition.specs.Json.{Json};

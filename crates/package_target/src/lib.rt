@@ -1,5 +1,8 @@
 // PACKAGE_TARGET_RESOLVE of the Node.js documents, as lib.rs has it: the target at a place of a manifest, through the condition objects and the
 // arrays that hold it.
+
+#![tactic(auto)]
+
 ghost use Rattle.std.specs.Prelude.{◌≡◌, List, ℕ, suc, ◌≤◌, ◌<◌, ltb, length, drop, set, replicate};
 ghost use Rattle.std.proofs.Math.Option.{some};
 ghost use Rattle.definition.specs.Text.{if◌then◌else◌};

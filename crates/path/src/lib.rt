@@ -1,4 +1,7 @@
 // Paths: a path under construction, and path.rs.
+
+#![tactic(auto)]
+
 ghost use Rattle.std.specs.Prelude.{◌≡◌, ◌&&◌, ◌||◌, true, ◌+◌, ◌≤◌, ◌<◌, eqb, length, take, drop, get_or};
 ghost use mathlib.Core.List.{[], ◌++◌, flat_map};
 ghost use Rattle.definition.specs.Text.{text, star, if◌then◌else◌, equal, starts_with, replace, utf8};

@@ -1,4 +1,7 @@
 // require(X) of lib.rs for an X that is relative, over a lent listing: `require_relative`.
+
+#![tactic(auto)]
+
 ghost use Rattle.std.specs.Prelude.{◌≡◌, ◌||◌, ◌≤◌, length};
 ghost use Rattle.definition.specs.Text.{text, equal, ends_with};
 ghost use Rattle.definition.specs.Settings.{settings_of};

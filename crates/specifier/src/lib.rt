@@ -1,4 +1,7 @@
 // Specifiers: `Specifier::parse`, the path of one in which something is escaped, and parts of a slice.
+
+#![tactic(auto)]
+
 ghost use Rattle.std.specs.Prelude.{◌≡◌, drop, take};
 ghost use mathlib.Core.List.{flat_map};
 ghost use Rattle.definition.specs.Text.{utf8};

@@ -1,4 +1,7 @@
 // PACKAGE_TARGET_RESOLVE for a string, pattern keys, and the query and fragment so far.
+
+#![tactic(auto)]
+
 ghost use Rattle.std.specs.Prelude.{◌≡◌, List, [], ◌++◌, ℕ, ◌+◌, ◌≤◌, suc, length, ◌&&◌, ◌||◌, leb};
 ghost use Rattle.definition.specs.Text.{star, equal, ends_with, replace, overwrite};
 ghost use Rattle.definition.specs.Path.{limited};

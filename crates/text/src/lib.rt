@@ -1,4 +1,7 @@
 // Bytes: equality, order, search, counts, copy, zero fill.
+
+#![tactic(auto)]
+
 ghost use Rattle.std.specs.Prelude.{◌≡◌, ◌+◌, ◌-◌, min, length, drop, take};
 ghost use Rattle.definition.specs.Text.{equal, equal_ignoring_case, lower_case, smaller, starts_with, ends_with, count, contains, contains_text, before, before_last, overwrite, zero_from};
 

@@ -1,4 +1,7 @@
 // Whether bytes are UTF-8, by RFC 3629: no character in more bytes than it needs, no surrogate, and none past the largest.
+
+#![tactic(auto)]
+
 ghost use Rattle.std.specs.Prelude.{◌≡◌, List, ◌∷◌, ℕ, ◌≤◌, ◌<◌, length, get_or};
 ghost use Rattle.definition.specs.Text.{due, due_after, is_utf8_from, is_utf8};
 ghost use Rattle.utf8.specs.Meaning.{meant};

@@ -1,0 +1,18 @@
+use mathlib.Core.Path.{◌≡◌}
+use mathlib.Core.List.{[]}
+use Prim.Native.Nat.{◌-◌}
+use lib.ListN.{length, drop}
+use Rattle.definition.specs.Settings.{texts_of, settings_of}
+use Rattle.definition.specs.Called.{seen_by}
+use Rattle.consults.specs.Loop.{Left}
+use Rattle.consults.specs.Meaning.{tape_of, place}
+use Rattle.files.specs.Meaning.{load_main_file}
+use Rattle.files.proofs.load_index.Given as goal
+
+abbrev pub invariant-loop-i : goal.invariant-loop-i
+invariant-loop-i l =
+    (length l.result ≡ length l.initial.result) × (length l.nums ≡ length l.initial.nums) × (length l.text ≡ length l.initial.text)
+    × Left (seen_by (settings_of l.s) l.l) (load_main_file (settings_of l.s) (place l.path l.query l.fragment)) (texts_of l.s 3) (tape_of l.initial.result l.initial.nums l.initial.text l.initial.mark) (drop l.i (texts_of l.s 3)) (tape_of l.result l.nums l.text l.mark)
+
+abbrev pub decreases-loop-i : goal.decreases-loop-i
+decreases-loop-i l = l.n - l.i

@@ -1,0 +1,23 @@
+-- Each word is read as it is told, and each window begins in the one before it or right behind it.
+use native.Mathlib.Omega.{arith}
+use Rattle.listing.proofs.words_of.Goals as goal
+
+pub returns : goal.returns
+returns c = (
+  record {
+    bytes = λ i. omega (arith, c.shared_slice_known-1.given i);
+    is_start = c.low_or_zero.ensures;
+    is_next = c.low_or_zero-2.ensures;
+    first = c.eight_or_zero.ensures;
+    second = c.eight_or_zero-2.ensures;
+    third = c.eight_or_zero-3.ensures;
+    fourth = c.eight_or_zero-4.ensures;
+  },
+  record {
+    low8 = omega (arith, c.window-b.ensures, c.window-c.ensures, c.window-d.ensures);
+    high16 = omega (arith, c.window-b.ensures, c.window-c.ensures, c.window-d.ensures);
+    low16 = omega (arith, c.window-b.ensures, c.window-c.ensures, c.window-d.ensures);
+    high24 = omega (arith, c.window-b.ensures, c.window-c.ensures, c.window-d.ensures);
+    low24 = omega (arith, c.window-b.ensures, c.window-c.ensures, c.window-d.ensures);
+  },
+)

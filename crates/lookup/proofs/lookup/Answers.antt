@@ -1,0 +1,11 @@
+-- `lookup::lookup` meets its contract, by the laws of `output::Filling`.
+use Rattle.output.proofs.Filling.{zero_all}
+use Rattle.lookup.proofs.lookup.Goals as goal
+
+pub returns : goal.returns
+returns c =
+    let r = c.resolve-reply in
+    rw (
+      zero_all r.last.1.1.1.1.1.1.1.1.0 _ c.zero_from.ensures,
+      r.auto.work,
+    ) r.ensures

@@ -1,0 +1,21 @@
+use mathlib.Core.Path.{sym, ◌∙◌}
+use Prim.Native.Nat.{◌-◌}
+use Rattle.json_string.proofs.Rules.{here, past}
+use Rattle.definition.specs.JsonAt.{unless_closed}
+use Rattle.package_json.proofs.unless_closed.Goals as goal
+
+pub returns-then-i-m : goal.returns-then-i-m
+unfolding unless_closed
+returns-then-i-m c = rw c.in-At.is (rw (past _ _ c.if-i-m.true))
+
+pub returns-then-closes : goal.returns-then-closes
+unfolding unless_closed
+returns-then-closes c = rw c.in-At.is (rw (here _ _ c.if-i-m.false) (rw (sym c.closes_bracket-closes.ensures ∙ c.if-closes.true)))
+
+pub returns-in-Nothing : goal.returns-in-Nothing
+unfolding unless_closed
+returns-in-Nothing c = rw c.in-Nothing.is
+
+pub returns-else-closes : goal.returns-else-closes
+unfolding unless_closed
+returns-else-closes c = rw c.in-At.is (rw (here _ _ c.if-i-m.false) (rw (sym c.closes_bracket-closes.ensures ∙ c.if-closes.false)))

@@ -1,0 +1,13 @@
+use mathlib.Core.Path.{refl, sym}
+use native.Mathlib.Omega.{arith}
+use lib.ListN.{get_or-eq_default}
+use Rattle.settings.proofs.byte.Goals as goal
+
+pub overflow_cast-result : goal.overflow_cast-result
+overflow_cast-result c = omega (arith, c.shared_slice_known-1.given c.args.at)
+
+pub returns-then-at-s : goal.returns-then-at-s
+returns-then-at-s c = (refl, omega (arith, c.shared_slice_known-1.given c.args.at))
+
+pub returns : goal.returns
+returns c = (sym (get_or-eq_default c.args.s.now 0 c.if-at-s.false), omega arith)
