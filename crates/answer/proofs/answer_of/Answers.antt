@@ -37,7 +37,7 @@ returns-in-56 c = rw c.in-56.is
 
 pub returns-in_default : goal.returns-in_default
 returns-in_default c =
-    let r = c.in_default.rest in
+    let r = c.in_default.in_default-own.rest in
     simp (
       ne_eqb _ _ r.0.0.0.0.0.0.0.0.0.0.1,
       ne_eqb _ _ r.0.0.0.0.0.0.0.0.0.1,

@@ -12,4 +12,4 @@ pub returns-then-ending-res-2 : goal.returns-then-ending-res-2
 returns-then-ending-res-2 c = rw (lt-leb (text_length c.args.ending) c.args.res (omega arith))
 
 pub returns : goal.returns
-returns c = let a = c.args in leb_less a.ending.first a.ending.second a.ending.third a.result (omega arith)
+returns c = let a = c.args in leb_less a.ending.first a.ending.second a.ending.third a.res (omega arith)

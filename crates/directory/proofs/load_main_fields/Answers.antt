@@ -29,10 +29,10 @@ loop-i-preserved c =
     let l = c.loop-i in
     let more : l.i < length (texts_of c.args.s.now 2) = omega (arith, c.count-n.ensures, c.loop-i-test.true) in
     let r = c.load_main_field-out in (
-      r.auto.1.1.1.1.1.1.1.1.0 ∙ l.invariant.0,
-      r.auto.1.1.1.1.1.1.1.1.1.0 ∙ l.invariant.1,
-      r.auto.1.1.1.1.1.1.1.1.1.1.0 ∙ l.invariant.2,
-      r.auto.1.1.1.1.1.1.1.1.1.1.1.1.0 ∙ l.invariant.3,
+      r.auto.res ∙ l.invariant.0,
+      r.auto.nums ∙ l.invariant.1,
+      r.auto.text ∙ l.invariant.2,
+      r.auto.work ∙ l.invariant.3,
       λ j h. left_again _ _ _ _ _ _ _ _ _ _ (left_texts [] _ _ more) (l.invariant.4 j h) (onward _ c.in-Next.is) (r.ensures j h),
     )
 

@@ -13,8 +13,8 @@ use Rattle.directory.proofs.load_main_fields.Given as goal
 
 abbrev pub invariant-loop-i : goal.invariant-loop-i
 invariant-loop-i l =
-    (length l.result ≡ length l.initial.result) × (length l.nums ≡ length l.initial.nums) × (length l.text ≡ length l.initial.text) × (length l.work ≡ length l.initial.work)
-    × ((j : Json) → Stands 16 (drop l.root l.manifest) j → Left (seen_by (settings_of l.s) l.l) (main_field (settings_of l.s) (place l.path l.query l.fragment) j) (texts_of l.s 2) (tape_of l.initial.result l.initial.nums l.initial.text l.initial.mark) (drop l.i (texts_of l.s 2)) (tape_of l.result l.nums l.text l.mark))
+    (length l.res ≡ length l.initial.res) × (length l.nums ≡ length l.initial.nums) × (length l.text ≡ length l.initial.text) × (length l.work ≡ length l.initial.work)
+    × ((j : Json) → Stands 16 (drop l.root l.manifest) j → Left (seen_by (settings_of l.s) l.l) (main_field (settings_of l.s) (place l.path l.query l.fragment) j) (texts_of l.s 2) (tape_of l.initial.res l.initial.nums l.initial.text l.initial.mark) (drop l.i (texts_of l.s 2)) (tape_of l.res l.nums l.text l.mark))
 
 abbrev pub decreases-loop-i : goal.decreases-loop-i
 decreases-loop-i l = l.n - l.i

@@ -14,7 +14,7 @@ pub returns-in-Nowhere : goal.returns-in-Nowhere
 returns-in-Nowhere c =
     let a = c.args in record {
       done = λ G. nearest_none G _ (rw c.in-Nowhere.is at
-          (c.find_package_json-nearest.ensures G a.result.now));
+          (c.find_package_json-nearest.ensures G a.res.now));
       held = tt;
     }
 
@@ -23,7 +23,7 @@ returns-in-At c =
     let a = c.args in
     let j = c.judge.ensures in record {
       done = λ G. nearest_found G _ _
-          (rw c.in-At.is at (c.find_package_json-nearest.ensures G a.result.now)) (j.done G _ _);
+          (rw c.in-At.is at (c.find_package_json-nearest.ensures G a.res.now)) (j.done G _ _);
       held = j.held;
     }
 
@@ -32,6 +32,6 @@ returns-in-Refused c =
     let a = c.args in record {
       done = λ G. rw c.refuse.ensures
           (nearest_stop G _ _ (rw c.in-Refused.is at
-          (c.find_package_json-nearest.ensures G a.result.now)));
+          (c.find_package_json-nearest.ensures G a.res.now)));
       held = tt;
     }

@@ -19,7 +19,7 @@ pub loop-left-preserved : goal.loop-left-preserved
 loop-left-preserved c =
     let loop = c.loop-left in
     let better = c.better-best in (
-      better.auto.1.1.1.1.0 ∙ loop.invariant.0,
+      better.auto.work ∙ loop.invariant.0,
       λ ms h. best_on (loop.invariant.1 ms h) c.in-At.is c.next_member-cursor.result c.next_member-cursor.ensures better.result better.ensures,
     )
 

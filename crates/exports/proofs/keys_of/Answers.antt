@@ -13,7 +13,7 @@ pub key_at-key-requires : goal.key_at-key-requires
 key_at-key-requires c = omega (arith, c.loop-left.invariant.0, c.requires)
 
 pub loop-left-preserved : goal.loop-left-preserved
-loop-left-preserved c = (c.key_at-key.auto.1.1.0 ∙ c.loop-left.invariant.0, λ ms h. keyed_on (c.loop-left.invariant.1 ms h) c.in-At.is c.next_member-cursor.result c.next_member-cursor.ensures c.key_at-key.result c.key_at-key.ensures c.joined-keys.result c.joined-keys.ensures)
+loop-left-preserved c = (c.key_at-key.auto.work ∙ c.loop-left.invariant.0, λ ms h. keyed_on (c.loop-left.invariant.1 ms h) c.in-At.is c.next_member-cursor.result c.next_member-cursor.ensures c.key_at-key.result c.key_at-key.ensures c.joined-keys.result c.joined-keys.ensures)
 
 pub returns : goal.returns
 returns c ms h = keyed_over (c.loop-left.invariant.1 ms h) c.loop-left-test.false

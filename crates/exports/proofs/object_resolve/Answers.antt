@@ -18,19 +18,19 @@ pub returns-then-mixed : goal.returns-then-mixed
 returns-then-mixed c ms h = subpath_is c.args.m.now c.args.url.now c.args.subpath.now _ c.unresolved.result c.new.result ConfigMixed c.unresolved.ensures ∙ ap (λ x. record { context = x; outcome = failed (InvalidPackageConfig (manifest_of c.args.url.now)) }) (c.new.ensures _) ∙ object_mixed c.args.url.now (texts_of c.args.settings.now 0) c.args.subpath.now fresh ms (ap (λ (k : KeyMarks). k.dot && k.other) (sym (c.keys_of-keys.ensures ms h)) ∙ sym c.is_mixed-mixed.ensures ∙ c.if-mixed.true)
 
 pub keys_resolve-requires : goal.keys_resolve-requires
-keys_resolve-requires c = omega (arith, c.keys_of-keys.auto.1.1.0, c.requires)
+keys_resolve-requires c = omega (arith, c.keys_of-keys.auto.work, c.requires)
 
 pub returns-then-not-equal : goal.returns-then-not-equal
 returns-then-not-equal c ms h = c.keys_resolve.ensures ms h ∙ ap (keys_or_not c.args.url.now (texts_of c.args.settings.now 0) c.args.subpath.now (obj ms)) (c.new-then-not-equal.ensures _) ∙ object_other c.args.url.now (texts_of c.args.settings.now 0) c.args.subpath.now fresh ms (ap (λ (k : KeyMarks). k.dot && k.other) (sym (c.keys_of-keys.ensures ms h)) ∙ sym c.is_mixed-mixed.ensures ∙ c.if-mixed.false) (sym c.equal.ensures ∙ c.if-not-equal.true)
 
 pub main_resolve-answer-requires : goal.main_resolve-answer-requires
-main_resolve-answer-requires c = omega (arith, c.keys_of-keys.auto.1.1.0, c.requires)
+main_resolve-answer-requires c = omega (arith, c.keys_of-keys.auto.work, c.requires)
 
 pub returns-then-not-nothing : goal.returns-then-not-nothing
 returns-then-not-nothing c ms h = main_stop c.args.url.now (texts_of c.args.settings.now 0) c.args.subpath.now fresh ms (ap (λ (k : KeyMarks). k.dot && k.other) (sym (c.keys_of-keys.ensures ms h)) ∙ sym c.is_mixed-mixed.ensures ∙ c.if-mixed.false) (sym c.equal.ensures ∙ c.if-not-equal.false) _ _ c.main_resolve-answer.result (c.main_resolve-answer.ensures ms h (ap (λ (k : KeyMarks). k.subpath) (c.keys_of-keys.ensures ms h))) (sym c.is_nothing-nothing.ensures ∙ c.if-not-nothing.true)
 
 pub keys_resolve-requires-2 : goal.keys_resolve-requires-2
-keys_resolve-requires-2 c = omega (arith, c.main_resolve-answer.auto.1.1.1.1.1.0, c.keys_of-keys.auto.1.1.0, c.requires)
+keys_resolve-requires-2 c = omega (arith, c.main_resolve-answer.auto.work, c.keys_of-keys.auto.work, c.requires)
 
 pub returns : goal.returns
 returns c ms h = c.keys_resolve-2.ensures ms h ∙ main_on c.args.url.now (texts_of c.args.settings.now 0) c.args.subpath.now fresh ms (ap (λ (k : KeyMarks). k.dot && k.other) (sym (c.keys_of-keys.ensures ms h)) ∙ sym c.is_mixed-mixed.ensures ∙ c.if-mixed.false) (sym c.equal.ensures ∙ c.if-not-equal.false) _ _ c.main_resolve-answer.result (c.main_resolve-answer.ensures ms h (ap (λ (k : KeyMarks). k.subpath) (c.keys_of-keys.ensures ms h))) (sym c.is_nothing-nothing.ensures ∙ c.if-not-nothing.false)

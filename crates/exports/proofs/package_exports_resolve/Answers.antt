@@ -31,12 +31,12 @@ returns-in-Scalar c = record { result_after = λ j l h. subpath_is c.args.m.now 
 
 pub returns-in-String : goal.returns-in-String
 unfolding settings_of
-returns-in-String c = record { result_after = λ j l h. c.whole_resolve.ensures j (whole_string j (sym c.in-String.is ∙ c.kind_at-kind.ensures 15 j (stands_at h))) (stands_at h); work_len_unchanged = c.whole_resolve.auto.1.1.1.1.1.0 }
+returns-in-String c = record { result_after = λ j l h. c.whole_resolve.ensures j (whole_string j (sym c.in-String.is ∙ c.kind_at-kind.ensures 15 j (stands_at h))) (stands_at h); work_len_unchanged = c.whole_resolve.auto.work }
 
 pub returns-in-Array : goal.returns-in-Array
 unfolding settings_of
-returns-in-Array c = record { result_after = λ j l h. c.whole_resolve-in-Array.ensures j (whole_array j (sym c.in-Array.is ∙ c.kind_at-kind.ensures 15 j (stands_at h))) (stands_at h); work_len_unchanged = c.whole_resolve-in-Array.auto.1.1.1.1.1.0 }
+returns-in-Array c = record { result_after = λ j l h. c.whole_resolve-in-Array.ensures j (whole_array j (sym c.in-Array.is ∙ c.kind_at-kind.ensures 15 j (stands_at h))) (stands_at h); work_len_unchanged = c.whole_resolve-in-Array.auto.work }
 
 pub returns-in-Object : goal.returns-in-Object
 unfolding settings_of
-returns-in-Object c = record { result_after = λ j l h. let k = is-object j (sym c.in-Object.is ∙ c.kind_at-kind.ensures 15 j (stands_at h)) in rw k.1 (c.object_resolve.ensures k.0 (stands_at (rw k.1 at h))); work_len_unchanged = c.object_resolve.auto.1.1.1.1.1.0 }
+returns-in-Object c = record { result_after = λ j l h. let k = is-object j (sym c.in-Object.is ∙ c.kind_at-kind.ensures 15 j (stands_at h)) in rw k.1 (c.object_resolve.ensures k.0 (stands_at (rw k.1 at h))); work_len_unchanged = c.object_resolve.auto.work }

@@ -14,7 +14,7 @@ returns-in_default c =
     λ ms h.
     let start = c.args in
     let m = start.m.now in
-    let mk = start.match-key.now in
+    let mk = start.match_key.now in
     let url = start.url.now in
     let chosen = c.select-selected in
     let absent = none_selected m mk chosen.result (select mk (entries ms)) (chosen.ensures.selects ms c.requires h)
@@ -27,7 +27,7 @@ returns c =
     λ ms h.
     let start = c.args in
     let m = start.m.now in
-    let mk = start.match-key.now in
+    let mk = start.match_key.now in
     let url = start.url.now in
     let conditions = texts_of start.settings.now 0 in
     let chosen = c.select-selected in

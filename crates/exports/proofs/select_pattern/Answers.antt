@@ -8,14 +8,14 @@ returns-then-not-found c =
     λ ms h.
     let start = c.args in
     let chosen = c.best_key-best in
-    no_pattern start.m.now start.match-key.now chosen.result _ (chosen.ensures ms h) c.if-not-found.true
+    no_pattern start.m.now start.match_key.now chosen.result _ (chosen.ensures ms h) c.if-not-found.true
 
 pub returns-in_default : goal.returns-in_default
 returns-in_default c =
     λ ms h.
     let start = c.args in
     let m = start.m.now in
-    let mk = start.match-key.now in
+    let mk = start.match_key.now in
     let chosen = c.best_key-best in
     let value = c.value_of-found_value in
     let found = c.if-not-found.false in
@@ -28,7 +28,7 @@ returns c =
     λ ms h.
     let start = c.args in
     let m = start.m.now in
-    let mk = start.match-key.now in
+    let mk = start.match_key.now in
     let chosen = c.best_key-best in
     let value = c.value_of-found_value in
     let found = c.if-not-found.false in

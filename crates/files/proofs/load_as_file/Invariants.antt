@@ -11,8 +11,8 @@ use Rattle.files.proofs.load_as_file.Given as goal
 
 abbrev pub invariant-loop-i : goal.invariant-loop-i
 invariant-loop-i l =
-    (length l.result ≡ length l.initial.result) × (length l.nums ≡ length l.initial.nums) × (length l.text ≡ length l.initial.text)
-    × Left (seen_by (settings_of l.s) l.l) (try_extension (settings_of l.s) (place l.path l.query l.fragment)) (texts_of l.s 1) (tape_of l.initial.result l.initial.nums l.initial.text l.initial.mark) (drop l.i (texts_of l.s 1)) (tape_of l.result l.nums l.text l.mark)
+    (length l.res ≡ length l.initial.res) × (length l.nums ≡ length l.initial.nums) × (length l.text ≡ length l.initial.text)
+    × Left (seen_by (settings_of l.s) l.l) (try_extension (settings_of l.s) (place l.path l.query l.fragment)) (texts_of l.s 1) (tape_of l.initial.res l.initial.nums l.initial.text l.initial.mark) (drop l.i (texts_of l.s 1)) (tape_of l.res l.nums l.text l.mark)
 
 abbrev pub decreases-loop-i : goal.decreases-loop-i
 decreases-loop-i l = l.n - l.i

@@ -1,7 +1,6 @@
 use Rattle.json_scalar.specs.Scalars.{after_of}
 use Rattle.json_string.proofs.Rules.{here, past}
 use Rattle.json_string.proofs.Rules.{rules}
-use borrow.Author.Rules.{rules}
 use Rattle.json_scalar.proofs.after.Goals as goal
 
 pub returns-then-b-eq44 : goal.returns-then-b-eq44

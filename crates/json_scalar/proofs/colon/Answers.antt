@@ -3,7 +3,6 @@ use Rattle.json_string.proofs.Rules.{here, past}
 use Rattle.json_text.proofs.Laws.{ended}
 use Rattle.json_scalar.specs.Scalars.{colon_at}
 use Rattle.json_string.proofs.Rules.{rules}
-use borrow.Author.Rules.{rules}
 use Rattle.json_scalar.proofs.colon.Goals as goal
 
 pub returns-then-m-i-eq58 : goal.returns-then-m-i-eq58

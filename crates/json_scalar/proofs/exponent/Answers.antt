@@ -1,7 +1,6 @@
 use Rattle.definition.specs.Json.{exponent}
 use Rattle.json_string.proofs.Rules.{here, past}
 use Rattle.json_string.proofs.Rules.{rules}
-use borrow.Author.Rules.{rules}
 use Rattle.json_scalar.proofs.exponent.Goals as goal
 
 pub returns-then-b-eq101 : goal.returns-then-b-eq101

@@ -3,7 +3,6 @@ use borrow.Author.Tests.{ne_eqb}
 use Rattle.definition.specs.Json.{integer}
 use Rattle.json_string.proofs.Rules.{here, past}
 use Rattle.json_string.proofs.Rules.{rules}
-use borrow.Author.Rules.{rules}
 use Rattle.json_scalar.proofs.integer.Goals as goal
 
 pub returns-then-b-eq48 : goal.returns-then-b-eq48

@@ -1,7 +1,6 @@
 use Rattle.definition.specs.Json.{sign}
 use Rattle.json_string.proofs.Rules.{here, past}
 use Rattle.json_string.proofs.Rules.{rules}
-use borrow.Author.Rules.{rules}
 use Rattle.json_scalar.proofs.sign.Goals as goal
 
 pub returns-then-b-eq43 : goal.returns-then-b-eq43

@@ -1,7 +1,6 @@
 use mathlib.Core.Path.{sym, ◌∙◌}
 use Rattle.definition.specs.Json.{starts_value}
 use Rattle.json_string.proofs.Rules.{rules}
-use borrow.Author.Rules.{rules}
 use Rattle.json_scalar.proofs.starts_value.Goals as goal
 
 pub returns-then-digit : goal.returns-then-digit

@@ -1,7 +1,6 @@
 use mathlib.Core.Path.{refl, ◌∙◌}
 use Prim.Native.Nat.{◌-◌}
 use Rattle.definition.specs.Json.{word}
-use borrow.Author.Rules.{rules}
 use Rattle.json_string.proofs.Rules.{rules}
 use Rattle.json_scalar.proofs.word.Goals as goal
 

@@ -21,7 +21,7 @@ pub returns-in-Over : goal.returns-in-Over
 returns-in-Over c = record { is = on_over c.loop-i.invariant.1 c.loop-i-test.true c.advance-s.ensures c.in-Gives.is (rw c.in-Over.is at c.put_out-t.ensures).0; kept = (c.loop-i.n, ap (drop c.loop-i.n) (rw c.in-Over.is at c.put_out-t.ensures).1 ∙ c.loop-i.invariant.1.kept) }
 
 pub loop-i-preserved : goal.loop-i-preserved
-loop-i-preserved c = (c.put_out-t.auto.0 ∙ c.loop-i.invariant.0, on_gives c.loop-i.invariant.1 c.loop-i-test.true c.advance-s.ensures c.in-Gives.is (rw c.in-To.is at c.put_out-t.ensures))
+loop-i-preserved c = (c.put_out-t.auto.w ∙ c.loop-i.invariant.0, on_gives c.loop-i.invariant.1 c.loop-i-test.true c.advance-s.ensures c.in-Gives.is (rw c.in-To.is at c.put_out-t.ensures))
 
 pub returns : goal.returns
 returns c = record { is = at_end_lem c.loop-i.invariant.1 c.loop-i-test.false; kept = (c.loop-i.n, c.loop-i.invariant.1.kept) }

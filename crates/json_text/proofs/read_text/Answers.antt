@@ -24,4 +24,4 @@ pub returns-in-Fault-text : goal.returns-in-Fault-text
 returns-in-Fault-text c = let q = was_end c.quoted-read.ensures c.in-End.is in let z = sym (quoted_string c.args.m.now c.args.at _ _ c.if-at-m.false q.1) ∙ decodes_fault c.decode-text.ensures c.in-Fault-text.is in cc
 
 pub returns-in-End-text : goal.returns-in-End-text
-returns-in-End-text c = let q = was_end c.quoted-read.ensures c.in-End.is in let z = sym (decodes_end c.decode-text.ensures c.in-End-text.is) ∙ quoted_string c.args.m.now c.args.at _ _ c.if-at-m.false q.1 in told_work c.args.m.now c.args.at _ q.1 (escape_there _ 1024 between free _ _ (quoted_string c.args.m.now c.args.at _ _ c.if-at-m.false q.1) (ap starts_quote (plain_stop_at c.args.m.now (c.args.at + 1) c.plain_end-stop.result c.plain_end-stop.ensures) ∙ sym c.quote_at-plain.ensures ∙ c.if-plain.false)) _ _ c.if-w-lt-ROOM.false c.decode-text.auto.1.1.0 (decodes_fits c.decode-text.ensures c.in-End-text.is) (cc) (decodes_kept c.decode-text.ensures c.in-End-text.is)
+returns-in-End-text c = let q = was_end c.quoted-read.ensures c.in-End.is in let z = sym (decodes_end c.decode-text.ensures c.in-End-text.is) ∙ quoted_string c.args.m.now c.args.at _ _ c.if-at-m.false q.1 in told_work c.args.m.now c.args.at _ q.1 (escape_there _ 1024 between free _ _ (quoted_string c.args.m.now c.args.at _ _ c.if-at-m.false q.1) (ap starts_quote (plain_stop_at c.args.m.now (c.args.at + 1) c.plain_end-stop.result c.plain_end-stop.ensures) ∙ sym c.quote_at-plain.ensures ∙ c.if-plain.false)) _ _ c.if-w-lt-ROOM.false c.decode-text.auto.w (decodes_fits c.decode-text.ensures c.in-End-text.is) (cc) (decodes_kept c.decode-text.ensures c.in-End-text.is)

@@ -2,7 +2,6 @@ use Prim.Native.Nat.{◌-◌}
 use Rattle.json_string.proofs.Rules.{here, past}
 use Rattle.definition.specs.Json.{members}
 use Rattle.json_string.proofs.Rules.{rules}
-use borrow.Author.Rules.{rules}
 use Rattle.json_value.proofs.extra_member.Goals as goal
 
 pub returns-then-first-eq34 : goal.returns-then-first-eq34

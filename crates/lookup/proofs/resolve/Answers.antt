@@ -12,7 +12,7 @@ pub returns-in-Refused : goal.returns-in-Refused
 returns-in-Refused c =
     let a = c.args in
     let q = question_of a.listing.now a.settings.now a.start.now a.specifier.now a.limit in
-    let m = rooms_of a.result.now a.nums.now a.text.now (length a.work.now) in
+    let m = rooms_of a.res.now a.nums.now a.text.now (length a.work.now) in
     let o = c.check-checked in
     when_refused m 0 o.result _ _ _ (called_by q m o.result (o.ensures a.limit m refl)) _
     c.in-Refused.is (c.refuse.ensures _)
@@ -21,7 +21,7 @@ pub returns-in-Accepted : goal.returns-in-Accepted
 returns-in-Accepted c =
     let a = c.args in
     let q = question_of a.listing.now a.settings.now a.start.now a.specifier.now a.limit in
-    let m = rooms_of a.result.now a.nums.now a.text.now (length a.work.now) in
+    let m = rooms_of a.res.now a.nums.now a.text.now (length a.work.now) in
     let o = c.check-checked in
     let p = passed_by q m o.result (o.ensures a.limit m refl) c.in-Accepted.is in
     let d = c.load_package_self_or_node_modules-finished in

@@ -15,9 +15,9 @@ returns c e l w g =
     let room = c.requires in
     let a = c.args in
     let s : a.mark.size ≡ length (joined (paths l)) = let z = k.size in let y = room.size in omega arith in
-    filled (record { answer = c.answer_of.result; consults = a.mark.count }) a.result.now a.nums.now
+    filled (record { answer = c.answer_of.result; consults = a.mark.count }) a.res.now a.nums.now
     a.text.now _ _ _ e l w (rw c.answer_of.ensures (case_of a.ending e k.ending)) k.count
-    (text_done (text_length a.ending) _ a.result.now _ (length_of _ e k.ending) room.result g.result
+    (text_done (text_length a.ending) _ a.res.now _ (length_of _ e k.ending) room.result g.result
     c.zero_from.ensures)
     (c.finish_numbers.ensures l k.count s g.numbers)
     (text_done a.mark.size _ a.text.now _ s room.list (g.list (let y = room.size in omega arith))

@@ -4,10 +4,10 @@ use Rattle.output.proofs.Filling.{numbers_done}
 use Rattle.output.proofs.finish_numbers.Goals as goal
 
 pub bounds-nums-1 : goal.bounds-nums-1
-bounds-nums-1 c = simp length-set (omega (arith, c.spread.auto.0))
+bounds-nums-1 c = simp length-set (omega (arith, c.spread.auto.nums))
 
 pub returns : goal.returns
 returns c l a b g =
     let s = c.spread in
     let p = c.requires in
-    numbers_done l _ _ _ _ _ a b p.0 g s.auto.0 s.ensures c.zero_from_u32.ensures
+    numbers_done l _ _ _ _ _ a b p.0 g s.auto.nums s.ensures c.zero_from_u32.ensures

@@ -16,7 +16,7 @@ returns-in_default-stripped c =
 
 pub by_exports-requires : goal.by_exports-requires
 by_exports-requires c =
-    let k = c.text_field-t.auto.1.1.1.0 in
+    let k = c.text_field-t.auto.work in
     let p = c.requires in
     (omega (arith, p.0), omega (arith, p.1, ap length c.tail-sub.ensures, length-drop c.in-At.n c.args.spec.now), p.2)
 

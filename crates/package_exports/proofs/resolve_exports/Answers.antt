@@ -18,4 +18,4 @@ returns c =
     let a = c.args in
     let x = c.package_exports_resolve-r in
     let f = c.first-target.ensures in
-    λ j h. exports_found _ _ _ _ j (resolved_of a.manifest.now a.dir.now a.subpath.now _ x.result) (x.ensures.result_after j c.requires.0 h) _ _ (was_done (fits 42 2048 _ _ (omega (arith, c.requires.0, x.ensures.work_len_unchanged)) c.requires.1) (rw f at (c.exports_ending-way.ensures (seen_by (settings_of a.s.now) a.l.now) a.nums.now a.text.now a.m (context_of a.manifest.now x.result.answer.context)))) c.in-Next.is (was_done (enough _ (omega (arith, c.requires.0, x.ensures.work_len_unchanged, c.exports_ending-way.auto.1.1.1.1.1.1.1.1.0))) (rw f at c.resolve_in_context.ensures))
+    λ j h. exports_found _ _ _ _ j (resolved_of a.manifest.now a.dir.now a.subpath.now _ x.result) (x.ensures.result_after j c.requires.0 h) _ _ (was_done (fits 42 2048 _ _ (omega (arith, c.requires.0, x.ensures.work_len_unchanged)) c.requires.1) (rw f at (c.exports_ending-way.ensures (seen_by (settings_of a.s.now) a.l.now) a.nums.now a.text.now a.m (context_of a.manifest.now x.result.answer.context)))) c.in-Next.is (was_done (enough _ (omega (arith, c.requires.0, x.ensures.work_len_unchanged, c.exports_ending-way.auto.work))) (rw f at c.resolve_in_context.ensures))
