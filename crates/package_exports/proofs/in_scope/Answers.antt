@@ -10,7 +10,7 @@ pub returns-in_default-stripped : goal.returns-in_default-stripped
 returns-in_default-stripped c =
     let a = c.args in
     let f = c.text_field-t in
-    let n = ap some c.text_at-name.ensures ∙ sym (text_there _ _ f.result c.in_default.in_default-own.keys2) in
+    let n = ap some c.text_at-name.ensures ∙ sym (text_there _ _ f.result c.in_default.not-Nothing) in
     let t = field_text a.manifest.now _ a.root a.work.now _ c.requires.0 f.ensures in
     λ j h. rw c.next.ensures (self_other _ _ _ j _ (n ∙ t j h) (rw c.in_default-stripped.is at c.strip_package_name-stripped.ensures))
 
@@ -24,7 +24,7 @@ pub returns-in_default : goal.returns-in_default
 returns-in_default c =
     let a = c.args in
     let f = c.text_field-t in
-    let n = ap some c.text_at-name.ensures ∙ sym (text_there _ _ f.result c.in_default.in_default-own.keys2) in
+    let n = ap some c.text_at-name.ensures ∙ sym (text_there _ _ f.result c.in_default.not-Nothing) in
     let t = field_text a.manifest.now _ a.root a.work.now _ c.requires.0 f.ensures in
     let o = ap some c.tail-sub.ensures ∙ (rw c.in-At.is at c.strip_package_name-stripped.ensures) in
     λ j h. self_named _ _ _ j _ (n ∙ t j h) _ o (c.by_exports.ensures j h)

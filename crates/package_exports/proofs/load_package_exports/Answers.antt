@@ -29,6 +29,6 @@ by_exports-requires c = (c.if-work-lt1024.false, c.if-sub-gt512.false, rw (c.in-
 pub returns : goal.returns
 returns c =
     let o = c.own-found in
-    let p = c.package-1.given in
+    let p = c.in-At.is in
     let g = settings_of c.args.s.now in
-    is_done _ (fits 22 512 _ _ c.if-work-lt1024.false c.if-sub-gt512.false) (package_manifest g _ _ _ _ (rw (c.in-Next.is, p.1) at (o.ensures.done g)) (c.by_exports.ensures _ (rw c.contents-manifest.ensures (rw p.1 at o.ensures.held))))
+    is_done _ (fits 22 512 _ _ c.if-work-lt1024.false c.if-sub-gt512.false) (package_manifest g _ _ _ _ (rw (c.in-Next.is, p) at (o.ensures.done g)) (c.by_exports.ensures _ (rw c.contents-manifest.ensures (rw p at o.ensures.held))))

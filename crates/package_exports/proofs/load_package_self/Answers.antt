@@ -42,9 +42,9 @@ in_scope-requires c =
 pub returns : goal.returns
 returns c =
     let o = c.scope-found in
-    let p = c.package-1.given in
+    let p = c.in-At.is in
     let m = c.contents-manifest.ensures in
     let g = settings_of c.args.s.now in
     is_done _ (fits 22 512 _ _ c.if-work-lt1024.false c.if-spec-gt512.false)
-    (self_scope g _ _ _ (rw (c.in-Next.is, p.1) at (o.ensures.done g))
-    (rw (c.first-dir.ensures, m) at (c.in_scope.ensures _ (rw (p.1, ← m) at o.ensures.held))))
+    (self_scope g _ _ _ (rw (c.in-Next.is, p) at (o.ensures.done g))
+    (rw (c.first-dir.ensures, m) at (c.in_scope.ensures _ (rw (p, ← m) at o.ensures.held))))
