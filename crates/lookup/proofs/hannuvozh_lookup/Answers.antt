@@ -29,7 +29,7 @@ overflow_cast-counts-3 c =
     )
 
 pub overflow_cast-counts-4 : goal.overflow_cast-counts-4
-overflow_cast-counts-4 c = omega (arith, consults_short c.lookup-reply.result _ _ _ _ _ _ c.lookup-reply.ensures, c.fits)
+overflow_cast-counts-4 c = omega (arith, consults_short c.lookup-reply.result _ _ _ _ _ _ c.lookup-reply.ensures, c.ranges.limit.fits)
 
 pub returns : goal.returns
 returns c =

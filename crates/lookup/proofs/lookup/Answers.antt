@@ -6,6 +6,6 @@ pub returns : goal.returns
 returns c =
     let r = c.resolve-reply in
     rw (
-      zero_all r.last.1.1.1.1.1.1.1.1.0 _ c.zero_from.ensures,
+      zero_all r.new.work _ c.zero_from.ensures,
       r.auto.work,
     ) r.ensures

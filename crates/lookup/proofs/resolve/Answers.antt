@@ -25,10 +25,10 @@ returns-in-Accepted c =
     let o = c.check-checked in
     let p = passed_by q m o.result (o.ensures a.limit m refl) c.in-Accepted.is in
     let d = c.load_package_self_or_node_modules-finished in
-    let k = d.auto.res in
+    let k = d.auto in
     let done = bare_done q m p (d.ensures.done (let h = p.work in omega arith) p.specifier) in
     when_accepted m 0 o.result _ _ _ (called_by q m o.result (o.ensures a.limit m refl))
     c.in-Accepted.is
-    (same_rooms q m p _ _ _ _ _ _ _ _ k.0 k.1.0 k.1.1.0 done _ _
+    (same_rooms q m p _ _ _ _ _ _ _ _ k.res k.nums k.text done _ _
     (c.deliver.ensures.done _ _ _
-    (walked q m p _ _ _ _ _ _ _ _ k.0 k.1.0 k.1.1.0 done)))
+    (walked q m p _ _ _ _ _ _ _ _ k.res k.nums k.text done)))
