@@ -1,5 +1,5 @@
 // What a check of a manifest costs: time per byte for plain manifests of 1, 4 and 16 KiB, and the factor of the worst ones of 16 KiB.
-// Build: rt staticlib package_json && cc -O2 bench/json.c target/staticlib/libpackage_json.a -o target/bench_json
+// Build: tools/staticlib package_json && cc -O2 bench/json.c target/staticlib/libpackage_json.a -o target/bench_json
 #include <stdint.h>
 #include <stdio.h>
 #include <string.h>

@@ -1,6 +1,6 @@
 /* The lookup of bare names over a listing of a job's files: which file does a name mean, asked for from a directory?
  *
- * Link the archive that `rt staticlib lookup` makes (target/staticlib/liblookup.a, x86-64 Linux). The function uses no heap and keeps nothing
+ * Link the archive that `tools/staticlib lookup` makes (target/staticlib/liblookup.a, x86-64 Linux). The function uses no heap and keeps nothing
  * between calls; threads may call it at once, each with buffers of its own.
  *
  * Formats, limits, and every number with an example: docs/GUIDE.md.

@@ -1,4 +1,4 @@
-//! Finds the static library: in the folder that `HANNUVOZH_LIBRARY` names, or where `rt staticlib lookup` puts it.
+//! Finds the static library: in the folder that `HANNUVOZH_LIBRARY` names, or where `tools/staticlib lookup` puts it.
 
 use std::env;
 use std::path::PathBuf;
@@ -10,7 +10,7 @@ fn main() {
     let archive = folder.join("liblookup.a");
     println!("cargo::rerun-if-changed={}", archive.display());
     if !archive.is_file() {
-        println!("cargo::error=no {}: make it by `rt staticlib lookup` at the project's root", archive.display());
+        println!("cargo::error=no {}: make it by `tools/staticlib lookup` at the project's root", archive.display());
     }
     println!("cargo::rustc-link-search=native={}", folder.display());
     println!("cargo::rustc-link-lib=static=lookup");

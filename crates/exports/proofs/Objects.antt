@@ -29,8 +29,8 @@ use Rattle.exports.specs.Chosen.{a_key, joined_keys, keys_of, BestOf}
 
 -- the member at a cursor
 module _ (m : List ℕ) (n : ℕ) (others : Members) (cursor : Cursor) (from : MembersFrom m 14 n others cursor) where
-  pub no_member : cursor ≡ Done → others ≡ no_member
-  no_member e = rw e at from
+  pub no_member_lem : cursor ≡ Done → others ≡ no_member
+  no_member_lem e = rw e at from
 
   pub member_over : n ≤ 0 → cursor ≡ Done
   member_over l = go cursor refl
@@ -97,7 +97,7 @@ keyed_start m i ms cursor e h =
 
 module _ {m : List ℕ} {ms : Members} {n : ℕ} {cursor : Cursor} {keys : KeyMarks} (g : Keyed m ms n cursor keys) where
   pub keyed_done : cursor ≡ Done → keys ≡ keys_of (entries ms)
-  keyed_done e = sym (g.same ∙ ap (λ x. joined_keys keys (keys_of (entries x))) (no_member m n g.others cursor g.from e) ∙ ap (joined_keys keys) keys_none ∙ joined_none keys)
+  keyed_done e = sym (g.same ∙ ap (λ x. joined_keys keys (keys_of (entries x))) (no_member_lem m n g.others cursor g.from e) ∙ ap (joined_keys keys) keys_none ∙ joined_none keys)
 
   pub keyed_over : n ≤ 0 → keys ≡ keys_of (entries ms)
   keyed_over l = keyed_done (member_over m n g.others cursor g.from l)
@@ -190,7 +190,7 @@ module _ {m mk : List ℕ} {ms : Members} {n : ℕ} {cursor : Cursor} {b : Best}
   pub best_done : cursor ≡ Done → BestOf m mk b (best mk none (entries ms))
   unfolding best entries
   best_done e =
-      let whole : BestOf m mk b (best mk none (entries g.written)) = rw (g.same ∙ ap (λ x. best mk g.so (entries x)) (no_member m n g.others cursor g.from e)) g.is in
+      let whole : BestOf m mk b (best mk none (entries g.written)) = rw (g.same ∙ ap (λ x. best mk g.so (entries x)) (no_member_lem m n g.others cursor g.from e)) g.is in
       subst (λ x. BestOf m mk b (best mk none (entries x))) g.means (best_as m mk b (same_key_chosen mk g.written) whole)
 
   pub best_over : n ≤ 0 → BestOf m mk b (best mk none (entries ms))

@@ -42,6 +42,8 @@ clash e = absurd (let z : ◌≡◌ {A = ℕ} 0 1 = cc in omega arith)
 finds_from : (m : List ℕ) (d : ℕ) (o : Option Json) (c : Cursor) → values.Finds d o (placed m c) → Finds m d o c
 finds_from m d (some j) (FoundAt i) (values.finds h) = stands_at h
 finds_from m d none NotFound values.finds_none = tt
+finds_from m d none (FoundAt i) h = elim h [ ]
+finds_from m d (some j) NotFound h = elim h [ ]
 
 pub get_finds : (m : List ℕ) (i : ℕ) (c : Cursor) (k : List ℕ) → placed m c ≡ get_at k (drop i m)
     → (d : ℕ) (ms : Members) → Stands m (suc d) i (obj ms) → Finds m d (get k (entries ms)) c

@@ -1,22 +1,19 @@
 // Runs listings with known answers through the check and the search, and prints for each group how many are as expected.
 // A listing is written as lines: d or f, a path, and for a file with contents "=" and the contents.
+#![tactic(auto)]
+
 ghost use Rattle.std.specs.Prelude.{◌<◌};
 
-use libc::STDOUT_FILENO;
 use listing::Found;
 use listing_check::Checked;
+use std::io;
 
 // The group's name, and how many of its cases are as expected; or after how many one was not.
-fn report(name: &[u8], got: usize, wanted: usize) {
-    io::write_all(STDOUT_FILENO, name);
+fn report(rt: &impl Print, name: &str, got: usize, wanted: usize) -> io::Result<()> {
     if got == wanted {
-        io::write_all(STDOUT_FILENO, b": ");
-        io::print_decimal(STDOUT_FILENO, got as u64);
-        io::write_all(STDOUT_FILENO, b" as expected\n");
+        println!(rt; "{name}: {got} as expected")
     } else {
-        io::write_all(STDOUT_FILENO, b": not as expected after ");
-        io::print_decimal(STDOUT_FILENO, got as u64);
-        io::write_all(STDOUT_FILENO, b"\n");
+        println!(rt; "{name}: not as expected after {got}")
     }
 }
 
@@ -39,14 +36,12 @@ fn put_number(l: &mut [u8], at: usize, x: usize)
 // The text at a place; the place behind it.
 fn put_text(l: &mut [u8], from: usize, s: &[u8]) -> usize {
     let mut at = from;
-    let mut i = 0;
-    while i < s.len() {
+    for b in s {
         if at >= l.len() {
             return at;
         }
-        l[at] = s[i];
+        l[at] = *b;
         at += 1;
-        i += 1;
     }
     at
 }
@@ -109,8 +104,7 @@ fn build(l: &mut [u8], lines: &[u8]) -> usize {
     }
     let mut at = 8 + 8 * n;
     let mut from = 0;
-    let mut i = 0;
-    while i < n {
+    for i in 0..n {
         let end = text::find(lines, b'\n', from);
         if end < from {
             return 0;
@@ -120,7 +114,6 @@ fn build(l: &mut [u8], lines: &[u8]) -> usize {
         }
         at = put_line(l, n, i, at, &lines[from..end]);
         from = end + 1;
-        i += 1;
     }
     put_sizes(l, n, at);
     at
@@ -166,14 +159,12 @@ fn cases(table: &[u8], wanted: u8) -> usize {
 }
 
 fn cut_off(l: &[u8], end: usize) -> usize {
-    let mut n: usize = 0;
-    while n < end {
+    for n in 0..end {
         if number_of(l, n) != 30 {
             return n;
         }
-        n += 1;
     }
-    n
+    end
 }
 
 // A good listing, and what is left of it cut off behind each of its bytes.
@@ -204,11 +195,9 @@ fn put_nested(l: &mut [u8], n: usize) -> usize
 {
     let path = *b"/a/a/a/a/a/a/a/a/a/a/a/a/a/a/a/a/a/a/a/a/a/a/a/a/a/a/a/a/a/a/a/a/a/a/a/a";
     let mut at = put_entry(l, n, 0, 8 + 8 * n, b'd', b"/", b"");
-    let mut i: usize = 1;
-    while i < n {
+    for i in 1..n {
         let size = 2 * i;
         at = put_entry(l, n, i, at, b'd', &path[0..size], b"");
-        i += 1;
     }
     put_sizes(l, n, at);
     at
@@ -235,10 +224,8 @@ fn put_files(l: &mut [u8], n: usize) -> usize
     requires { n < 1500 }
 {
     let mut at = put_entry(l, n, 0, 8 + 8 * n, b'd', b"/", b"");
-    let mut i: usize = 1;
-    while i < n {
+    for i in 1..n {
         at = put_file(l, n, i, at);
-        i += 1;
     }
     put_sizes(l, n, at);
     at
@@ -449,145 +436,162 @@ fn limits() -> usize {
     8
 }
 
-fn main() {
+fn main(rt: HostRuntime) -> io::Result<()> {
     let printed =
         b"d/\nd/p\nd/p/node_modules\nd/p/node_modules/mat\nd/p/node_modules/mat/lib\nf/p/node_modules/mat/lib/steel.js\nf/p/node_modules/mat/package.json={\"exports\":{\"./*\":\"./lib/*.js\"}}\n";
-    report(b"cut off", cuts(printed), 220);
-    report(b"sizes", sizes(), 11);
-    report(b"limits", limits(), 8);
+    report(&rt, "cut off", cuts(printed), 220)?;
+    report(&rt, "sizes", sizes(), 11)?;
+    report(&rt, "limits", limits(), 8)?;
     // names with dots and beyond ASCII, an empty manifest, a name that "/" sorts before, a longer name than package.json
     report(
-        b"accepted",
+        &rt,
+        "accepted",
         cases(
             b"d/\n;d/\nf/...\nf/..a\nf/.a\n;d/\nf/\xc3\xa9\nf/\xf0\x9f\x98\x80\n;d/\nf/package.json\n;d/\nd/a\nf/a-b\nf/a/b\n;d/\nd/xpackage.json\n;",
             0,
         ),
         6,
-    );
+    )?;
     // no entry; contents elsewhere than in a manifest, alone and beside 31 and 32
     report(
-        b"30",
+        &rt,
+        "30",
         cases(
             b";d/\nf/a=x\n;d/\nf/xpackage.json=x\n;d/\nf/b\nf/a=x\n;d/\nf/a=x\nd/package.json\n;",
             30,
         ),
         5,
-    );
+    )?;
     // the first entry; empty, relative, "/" at the end or twice; dots; byte 0; not UTF-8
     report(
-        b"31, paths",
+        &rt,
+        "31, paths",
         cases(
             b"d/a\n;f/\n;f\n;d/\nf\n;d/\nfa\n;d/\nd/a\nd/a/\n;d/\nf//a\n;d/\nd/a\nf/a//b\n;d/\nd/.\n;d/\nd/..\n;d/\nd/a\nf/a/.\n;d/\nd/a\nd/a/..\n;d/\nf/a\x00b\n;d/\nf/\xff\n;d/\nf/a\xc3\n;d/\nf/\xed\xa0\x80\n;",
             31,
         ),
         16,
-    );
+    )?;
     // order; twice the same; no parent; a file as parent; all beside 32
     report(
-        b"31, order",
+        &rt,
+        "31, order",
         cases(
             b"d/\nf/b\nf/a\n;d/\nf/a\nf/a\n;d/\nd/\n;d/\nd/ab\nf/a/c\n;d/\nf/a/b\n;d/\nd/a\nd/a/b\nf/ab\nf/b/c\n;d/\nd/a\nf/a/b/c\n;d/\nf/a\nf/a/b\n;d/\nd/a\nf/a-b\nf/a-b/c\n;d/\nd/package.json\nd/a\n;",
             31,
         ),
         10,
-    );
+    )?;
     report(
-        b"32",
+        &rt,
+        "32",
         cases(
             b"d/\nd/package.json\n;d/\nd/a\nd/a/package.json\n;d/\nd/package.json\nf/package.json/a\n;",
             32,
         ),
         3,
-    );
+    )?;
     report(
-        b"search",
+        &rt,
+        "search",
         searches_of(
             printed,
             0,
             b"1/\n1/p\n0/q\n0\n0/p/\n0/p/node_module\n1/p/node_modules\n1/p/node_modules/mat/lib\n2/p/node_modules/mat/lib/steel.js\n2/p/node_modules/mat/package.json={\"exports\":{\"./*\":\"./lib/*.js\"}}\n0/p/package.json\n",
         ),
         11,
-    );
+    )?;
     // where bytes are missing, an entry ends where they end, and missing lengths count as zeros
     report(
-        b"search, cut in contents",
+        &rt,
+        "search, cut in contents",
         searches_of(
             printed,
             10,
             b"1/p\n2/p/node_modules/mat/package.json={\"exports\":{\"./*\":\"./l\n0/q\n0\n",
         ),
         4,
-    );
+    )?;
     report(
-        b"search, cut in a path",
+        &rt,
+        "search, cut in a path",
         searches_of(
             printed,
             40,
             b"1/p\n2/p/node_modules/mat/pack\n0/p/node_modules/mat/package.json\n",
         ),
         3,
-    );
+    )?;
     // the arrays: a first mark that is whole, one byte short, and missing
     report(
-        b"search, cut in marks",
+        &rt,
+        "search, cut in marks",
         searches_of(printed, 180, b"1\n0/\n0/p\n"),
         3,
-    );
+    )?;
     report(
-        b"search, cut in a mark",
+        &rt,
+        "search, cut in a mark",
         searches_of(printed, 181, b"2\n0/\n"),
         2,
-    );
+    )?;
     report(
-        b"search, cut in lengths",
+        &rt,
+        "search, cut in lengths",
         searches_of(printed, 190, b"2\n0/\n0/p\n"),
         3,
-    );
+    )?;
     // paths that do not rise: the first path not below the one sought decides
     report(
-        b"search, falling",
+        &rt,
+        "search, falling",
         searches_of(b"d/\nf/c\nf/b\nf/a\n", 0, b"1/\n2/c\n0/b\n0/a\n0/d\n"),
         5,
-    );
+    )?;
     report(
-        b"search, equal paths",
+        &rt,
+        "search, equal paths",
         searches_of(
             b"d/\nf/a=x\nf/a=y\nd/b\nf/b=z\nf/a=x\n",
             0,
             b"2/a=x\n1/b\n0/c\n",
         ),
         3,
-    );
+    )?;
     report(
-        b"search, beginnings",
+        &rt,
+        "search, beginnings",
         searches_of(
             b"f/ab=x\nf/a=y\nf/abc=z\n",
             0,
             b"2/ab=x\n0/a\n2/abc=z\n0/abcd\n0/\n",
         ),
         5,
-    );
+    )?;
     report(
-        b"search, empty paths first",
+        &rt,
+        "search, empty paths first",
         searches_of(b"f=x\nf=y\nd/\n", 0, b"2=x\n1/\n"),
         2,
-    );
+    )?;
     report(
-        b"search, an empty path last",
+        &rt,
+        "search, an empty path last",
         searches_of(b"d/\nf=x\n", 0, b"0\n1/\n"),
         2,
-    );
+    )?;
     // over 32 bytes in common
     report(
-        b"search, far in common",
+        &rt,
+        "search, far in common",
         searches_of(
             b"f/p/node_modules/element-beam/lib/b.js=x\nf/p/node_modules/element-beam/lib/a.js=y\nf/p/node_modules/element-beam/lib/c.js=z\n",
             0,
             b"2/p/node_modules/element-beam/lib/b.js=x\n0/p/node_modules/element-beam/lib/a.js\n2/p/node_modules/element-beam/lib/c.js=z\n0/p/node_modules/element-beam/lib\n",
         ),
         4,
-    );
-    report(b"search, places", places(), 4);
-    report(b"search, no bytes", searches(b"", b"0/\n0\n"), 2);
-    report(b"search, one byte", searches(b"\x01", b"0/\n2\n"), 2);
+    )?;
+    report(&rt, "search, places", places(), 4)?;
+    report(&rt, "search, no bytes", searches(b"", b"0/\n0\n"), 2)?;
+    report(&rt, "search, one byte", searches(b"\x01", b"0/\n2\n"), 2)
 }

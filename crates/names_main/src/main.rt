@@ -1,21 +1,18 @@
 // Runs paths, specifiers and package names with known answers through the functions of `path`, `specifier` and `package_name`, and prints for
 // each group how many are as expected. A table has a row to a line: a letter for the function, its texts and the answer, each behind a bar.
-use libc::STDOUT_FILENO;
+#![tactic(auto)]
+
 use package_name::Stripped;
 use path::PathBuf;
 use specifier::Specifier;
+use std::io;
 
 // The group's name, and how many of its rows are as expected; or the number of the first that is not.
-fn report(name: &[u8], got: usize, rows: usize) {
-    io::write_all(STDOUT_FILENO, name);
+fn report(rt: &impl Print, name: &str, got: usize, rows: usize) -> io::Result<()> {
     if got == rows {
-        io::write_all(STDOUT_FILENO, b": ");
-        io::print_decimal(STDOUT_FILENO, got as u64);
-        io::write_all(STDOUT_FILENO, b" as expected\n");
+        println!(rt; "{name}: {got} as expected")
     } else {
-        io::write_all(STDOUT_FILENO, b": not as expected after row ");
-        io::print_decimal(STDOUT_FILENO, got as u64);
-        io::write_all(STDOUT_FILENO, b"\n");
+        println!(rt; "{name}: not as expected after row {got}")
     }
 }
 
@@ -31,24 +28,20 @@ fn cut(s: &[u8], at: usize, end: usize) -> &[u8] {
 // The text behind the k-th bar of a row.
 fn field(row: &[u8], k: usize) -> &[u8] {
     let mut at: usize = 0;
-    let mut i: usize = 0;
-    while i < k {
+    for _ in 0..k {
         at = text::find(row, b'|', at);
         if at < row.len() {
             at += 1;
         }
-        i += 1;
     }
     cut(row, at, text::find(row, b'|', at))
 }
 
 // A path that is not over-long and has this text.
 fn is(p: PathBuf, t: &[u8]) -> bool {
-    if p.over_long() {
-        return false;
-    }
     let n = p.len;
-    text::equal(path::first(&p.bytes, n), t)
+    let same = text::equal(path::first(&p.bytes, n), t);
+    same && !p.over_long()
 }
 
 fn built(which: u8, row: &[u8]) -> bool {
@@ -221,14 +214,13 @@ fn has(p: PathBuf, n: usize) -> bool {
 // 2,048 bytes fit, 2,049 do not, in every function that makes a path longer.
 fn limits(a: &[u8]) -> usize {
     let base = path::first(a, 2040);
-    let p = PathBuf::from(base);
     let mut n: usize = 0;
     n = tick(n, has(PathBuf::from(path::first(a, 2048)), 2048));
     n = tick(n, over(PathBuf::from(path::first(a, 2049))));
-    n = tick(n, has(p.push(path::first(a, 7)), 2048));
-    n = tick(n, over(p.push(path::first(a, 8))));
-    n = tick(n, has(p.append(path::first(a, 8)), 2048));
-    n = tick(n, over(p.append(path::first(a, 9))));
+    n = tick(n, has(PathBuf::from(base).push(path::first(a, 7)), 2048));
+    n = tick(n, over(PathBuf::from(base).push(path::first(a, 8))));
+    n = tick(n, has(PathBuf::from(base).append(path::first(a, 8)), 2048));
+    n = tick(n, over(PathBuf::from(base).append(path::first(a, 9))));
     n = tick(
         n,
         has(path::add_name_and_extension(base, b"inde", b".js"), 2048),
@@ -262,122 +254,135 @@ fn more_limits(a: &[u8]) -> usize {
 
 // What was over-long stays so.
 fn stays_over(a: &[u8]) -> usize {
-    let p = PathBuf::from(a);
     let mut n: usize = 0;
-    n = tick(n, over(p.push(b"a")));
-    n = tick(n, over(p.push(b"")));
-    n = tick(n, over(p.pop()));
-    n = tick(n, over(p.append(b"")));
+    n = tick(n, over(PathBuf::from(a).push(b"a")));
+    n = tick(n, over(PathBuf::from(a).push(b"")));
+    n = tick(n, over(PathBuf::from(a).pop()));
+    n = tick(n, over(PathBuf::from(a).append(b"")));
     n = tick(n, over(path::add_name_and_extension(a, b"", b"")));
     n = tick(n, over(path::add_extension(a, b"")));
     n = tick(n, over(path::manifest_path(a)));
     n
 }
 
-fn paths() {
+fn paths(rt: &impl Print) -> io::Result<()> {
     report(
-        b"path.rs",
+        rt,
+        "path.rs",
         rows(
             b"x|../a.js|invalid\nx|../|invalid\nx|./a/b/../../../c.js|invalid\nx|./a/b/../../../|invalid\nx|./../../c.js|invalid\nx|./../../|invalid\nx|./a/../b/../../c.js|invalid\nx|./a/../b/../../|invalid\nx|./././../|invalid\nx|C:|\nx|/|\nr|foo/../../foo/|../foo\nr|foo/.././foo/|foo\nr|foo../../..|..\nr|jest-runner-../../|\n",
         ),
         15,
-    );
+    )?;
     report(
-        b"01",
+        rt,
+        "01",
         rows(
             b"r|a/../../b|../b\nr|a/../../../b|b\nx|./a/./b.js|\nx|./a/../b|invalid\nx|./NODE_MODULES/a|invalid\n",
         ),
         5,
-    );
+    )?;
     report(
-        b"components",
+        rt,
+        "components",
         rows(
             b"x||\nx|.|\nx|..|invalid\nx|./a..|\nx|./.../b|\nx|node_modules|invalid\nx|./a/Node_Modules|invalid\nx|./node_modules_|\nx|/node_modules|invalid\nx|./a//b|\nr||\nr|.|\nr|./|\nr|/|/\nr|//|/\nr|/..|/..\nr|/a/..|/\nr|/../..|/\nr|../..|\nr|../../..|..\nr|./a/./b/|a/b\nr|a//b|a/b\nr|/./a|/a\n",
         ),
         23,
-    );
+    )?;
     report(
-        b"normalize_with",
+        rt,
+        "normalize_with",
         rows(
             b"w|/a|./b|/a/b\nw|/a|b|/a/b\nw|/a/b|../c|/a/c\nw|/a|../../b|/b\nw|/|..|/\nw|/|a|/a\nw|/|./a/..|/\nw|/a|.|/a\nw|/a|./|/a\nw|/a|b//c/|/a/b/c\nw|/a|b/./c|/a/b/c\nw|/a|.b|/a/.b\nw|/a|..b|/a/..b\nw|/a|/x/../y|/x/../y\nw|/a||\nw||a|a\nw|a|..|\nw|a|../b|b\n",
         ),
         18,
-    );
+    )?;
     report(
-        b"methods",
+        rt,
+        "methods",
         rows(
             b"+||a|a\n+|/|a|/a\n+|/a|b|/a/b\n+|/a/|b|/a/b\n+|/a||/a/\n-|/a/b|/a\n-|/a|/\n-|/|/\n-|a|\n-|a/b|a\n-||\n.|/a|.js|/a.js\n.|||\ne|/a|.js|/a.js\ne|||\ni|/a|index|.js|/a/index.js\ni|/|index|.js|//index.js\nm|/a|/a/package.json\nm|/|/package.json\np|/a/b|/a\np|/a|/\np|/|/\np|a|\np||\nn|/a/b|b\nn|/a|a\nn|a|a\nn|/|\n",
         ),
         28,
-    );
+    )
 }
 
-fn package_names() {
+fn package_names(rt: &impl Print) -> io::Result<()> {
     report(
-        b"name and subpath",
+        rt,
+        "name and subpath",
         rows(
             b"s|||\ns|a|a|\ns|a/|a|/\ns|a/b/c|a|/b/c\ns|/a||/a\ns|a\\b|a\\b|\ns|@a/b/c|@a/b|/c\ns|@a|@a|\ns|@|@|\ns|@/|@/|\ns|@a/b|@a/b|\ns|@a//b|@a/|/b\n",
         ),
         12,
-    );
+    )?;
     report(
-        b"dotted subpath",
+        rt,
+        "dotted subpath",
         rows(b"d||.\nd|/c|./c\nd|./c|./c\nd|\\c|.\\c\nd|/345678|./345678\nd|/3456789|./3456789\n"),
         6,
-    );
+    )?;
     report(
-        b"package name stripped",
+        rt,
+        "package name stripped",
         rows(
             b"t|a|a|\nt|a/b|a|/b\nt|a\\b|a|\\b\nt|@a/b/c|@a/b|/c\nt|/b||/b\nt|ab|a|kept\nt|a|ab|kept\nt|b/a|a|kept\nt|a||kept\n",
         ),
         9,
-    );
+    )?;
     report(
-        b"question's specifier",
+        rt,
+        "question's specifier",
         rows(
             b"b|a|bare\nb|@|bare\nb|@a/b|bare\nb|a/|bare\nb|\\|bare\nb|...|bare\nb|.a/b|bare\nb|a/../../b|bare\nb|\xC3\xA9#?|bare\nb||\nb|.|\nb|..|\nb|./a|\nb|../a|\nb|/a|\nb|#a|\nb|a\x00b|\nb|a\xC3|\n",
         ),
         18,
-    );
+    )?;
     report(
-        b"second walk",
+        rt,
+        "second walk",
         rows(
             b"c|a/../../b|../b|up\nc|a/../../../b|b|\nc|a/../../b/|../b/|up\nc|a/../..|..|up\nc|a/../b|b|\nc|a/b/../../c|c|\nc|@a/b/../../../c|../c|up\n",
         ),
         7,
-    );
+    )
 }
 
-fn specifiers() {
+fn specifiers(rt: &impl Print) -> io::Result<()> {
     report(
-        b"path, query, fragment",
+        rt,
+        "path, query, fragment",
         rows(
             b"q|./a|./a||\nq|./a?b|./a|?b|\nq|./a#b|./a||#b\nq|./a?b#c|./a|?b|#c\nq|\xC3\xA9?\xC3\xA9|\xC3\xA9|?\xC3\xA9|\n",
         ),
         5,
-    );
+    )?;
     report(
-        b"marks in front and again",
+        rt,
+        "marks in front and again",
         rows(
             b"q|./a#b?c|./a||#b?c\nq|./a?b?c#d#e|./a|?b?c|#d#e\nq|#a#b|#a||#b\nq|#|#||\nq|./?#|./|?|#\n",
         ),
         5,
-    );
+    )?;
     report(
-        b"escaped",
+        rt,
+        "escaped",
         rows(
             b"q|./x\x00#y|./x#y||\nq|\x00#|#||\nq|./a\x00#b#c|./a#b||#c\nq|./\xC3\xA9\x00#|./\xC3\x83\xC2\xA9#||\n",
         ),
         4,
-    );
+    )?;
     report(
-        b"zero bytes that escape nothing",
+        rt,
+        "zero bytes that escape nothing",
         rows(
             b"q|./a?b\x00#c|./a|?b\x00#c|\nq|./a\x00b|./a\x00b||\nq|./a\x00?b|./a\x00|?b|\nq|\xC3\xA9?\x00#|\xC3\x83\xC2\xA9|?\x00#|\n",
         ),
         4,
-    );
-    report(b"empty", rows(b"q||empty\nq|?|empty\nq|?a#b|empty\n"), 3);
+    )?;
+    report(rt, "empty", rows(b"q||empty\nq|?|empty\nq|?a#b|empty\n"), 3)
 }
 
 // 512 bytes of a question's specifier are within the limit, 513 over it. Where nothing is escaped, the path is a part of the specifier, and
@@ -413,15 +418,15 @@ fn long_climbs(a: &[u8]) -> usize {
     tick(n, over(package_name::normalized(a)))
 }
 
-fn main() {
-    paths();
-    package_names();
-    specifiers();
+fn main(rt: HostRuntime) -> io::Result<()> {
+    paths(&rt)?;
+    package_names(&rt)?;
+    specifiers(&rt)?;
     let a = [b'a'; 2049];
-    report(b"limits", limits(&a), 10);
-    report(b"more limits", more_limits(&a), 8);
-    report(b"over-long", stays_over(&a), 7);
-    report(b"limits of a specifier", specifier_limits(&a), 4);
-    report(b"long paths with escapes", long_paths(&a), 4);
-    report(b"second walk of a long specifier", long_climbs(&a), 3);
+    report(&rt, "limits", limits(&a), 10)?;
+    report(&rt, "more limits", more_limits(&a), 8)?;
+    report(&rt, "over-long", stays_over(&a), 7)?;
+    report(&rt, "limits of a specifier", specifier_limits(&a), 4)?;
+    report(&rt, "long paths with escapes", long_paths(&a), 4)?;
+    report(&rt, "second walk of a long specifier", long_climbs(&a), 3)
 }

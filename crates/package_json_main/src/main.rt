@@ -10,10 +10,16 @@
 //   text      text, name, manifest: the text of the root's member
 //   name      text, i, manifest: the name of the root's i-th member
 //   element   text, i, manifest: the text of the root's i-th element
+#![tactic(auto)]
+
 ghost use Rattle.std.specs.Prelude.{◌≤◌};
 
-use libc::{STDIN_FILENO, STDOUT_FILENO};
 use package_json::{Cursor, Kind};
+use std::io;
+use std::io::{Read, Write};
+
+// As many bytes of standard input are read.
+const MOST: u64 = 65536;
 
 // The next place; no text here is as long as that.
 fn next(at: usize) -> usize {
@@ -33,10 +39,8 @@ fn byte(t: &[u8], i: usize) -> u8 {
 
 fn field(row: &[u8], i: usize) -> &[u8] {
     let mut at: usize = 0;
-    let mut left = i;
-    while left > 0 {
+    for _ in 0..i {
         at = next(text::find(row, b'\t', at));
-        left -= 1;
     }
     let end = text::find(row, b'\t', at);
     text::part(row, at, end - at)
@@ -51,14 +55,11 @@ fn wide(b: u8) -> usize
 // The decimal number that a text begins with.
 fn number(t: &[u8]) -> usize {
     let mut n: usize = 0;
-    let mut i: usize = 0;
-    while i < t.len() {
-        let b = t[i];
-        if b < b'0' {
+    for b in t {
+        if *b < b'0' {
             return n;
         }
-        n = (10 * n + wide(b - b'0')) % 100000;
-        i += 1;
+        n = (10 * n + wide(*b - b'0')) % 100000;
     }
     n
 }
@@ -111,10 +112,8 @@ fn expand(t: &[u8], out: &mut [u8], at: usize) -> usize {
 // The same so many times.
 fn repeat(t: &[u8], times: usize, out: &mut [u8], at: usize) -> usize {
     let mut n = at;
-    let mut left = times;
-    while left > 0 {
+    for _ in 0..times {
         n = expand(t, out, n);
-        left -= 1;
     }
     n
 }
@@ -129,12 +128,10 @@ fn check_row(row: &[u8], m: &mut [u8]) -> bool {
 
 // Whether a text is accepted, and no start of it.
 fn no_prefix(m: &[u8]) -> bool {
-    let mut k: usize = 0;
-    while k < m.len() {
+    for k in 0..m.len() {
         if package_json::package_json_check(text::part(m, 0, k)) != 7 {
             return false;
         }
-        k += 1;
     }
     package_json::package_json_check(m) == 0
 }
@@ -200,51 +197,49 @@ fn is_expected(row: &[u8]) -> bool {
 }
 
 // One more row is as expected, or it is shown.
-fn tally(n: usize, good: bool, row: &[u8]) -> usize {
+fn tally(rt: &impl Print, n: usize, good: bool, row: &[u8]) -> io::Result<usize> {
     if good {
-        return next(n);
+        return Ok(next(n));
     }
-    io::write_all(STDOUT_FILENO, b"\nnot as expected: ");
-    io::write_all(STDOUT_FILENO, row);
-    n
+    print!(rt; "\nnot as expected: ")?;
+    io::writer(rt).write_all(row)?;
+    Ok(n)
 }
 
-fn report(n: usize) {
-    io::write_all(STDOUT_FILENO, b": ");
-    io::print_decimal(STDOUT_FILENO, n as u64);
-    io::write_all(STDOUT_FILENO, b" as expected\n");
+fn report(rt: &impl Print, n: usize) -> io::Result<()> {
+    println!(rt; ": {n} as expected")
 }
 
 // A group's name, behind the group before it.
-fn open(n: usize, at: usize, name: &[u8]) {
+fn open(rt: &impl Print, n: usize, at: usize, name: &[u8]) -> io::Result<()> {
     if at > 0 {
-        report(n);
+        report(rt, n)?;
     }
-    io::write_all(STDOUT_FILENO, name);
+    io::writer(rt).write_all(name)
 }
 
-fn run(rows: &[u8]) {
+fn run(rt: &impl Print, rows: &[u8]) -> io::Result<()> {
     let mut n: usize = 0;
     let mut at: usize = 0;
     while at < rows.len() {
         let end = text::find(rows, b'\n', at);
         let row = text::part(rows, at, end - at);
         if byte(row, 0) == b'#' {
-            open(n, at, text::part(row, 2, row.len()));
+            open(rt, n, at, text::part(row, 2, row.len()))?;
             n = 0;
         } else {
-            n = tally(n, is_expected(row), row);
+            n = tally(rt, n, is_expected(row), row)?;
         }
         if end >= rows.len() {
             break;
         }
         at = end + 1;
     }
-    report(n);
+    report(rt, n)
 }
 
-fn main() {
-    let mut b = io::large_buffer();
-    let n = io::read_full(STDIN_FILENO, &mut b);
-    run(text::part(&b, 0, n));
+fn main(rt: HostRuntime) -> io::Result<()> {
+    let mut rows = Vec::new(rt.alloc());
+    rt.reader().take(MOST).read_to_end(&mut rows)?;
+    run(&rt, &rows)
 }

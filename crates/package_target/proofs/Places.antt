@@ -64,7 +64,7 @@ elements_from m d n es js Nothing e h = sym e ∙ ap settled_elements (none_elem
 -- the first of what a bracket opens
 module _ (m : List ℕ) (i : ℕ) (c : Cursor) where
   pub first_members : placed m c ≡ first_member (drop i m) → (d : ℕ) (ms : Members) → Written m (suc d) i (obj ms) → MembersFrom m d 128 ms c
-  first_members e d ms h = members_from m d 128 ms c (rw e (at.first_member h.here))
+  first_members e d ms h = members_from m d 128 ms c (rw e (at.first_member_lem h.here))
 
   pub first_elements : placed m c ≡ first_element (drop i m) → (d : ℕ) (js : Elements) → Stands m (suc d) i (arr js) → ElementsFrom m d 128 js c
   first_elements e d js h =

@@ -1,23 +1,21 @@
 // Runs settings with known answers through the functions of `settings`, and prints for each group how many are as expected.
 // A table is a byte string of rows. A driver counts its rows up to the first that is not as expected.
-use libc::STDOUT_FILENO;
+#![tactic(auto)]
+
 use settings::Kind;
+use std::io;
+use std::io::Write;
 
 fn wide(b: u8) -> usize {
     b as usize
 }
 
 // The group's name, and how many of its rows are as expected; or the number of the last that is.
-fn report(name: &[u8], got: usize, rows: usize) {
-    io::write_all(STDOUT_FILENO, name);
+fn report(rt: &impl Print, name: &str, got: usize, rows: usize) -> io::Result<()> {
     if got == rows {
-        io::write_all(STDOUT_FILENO, b": ");
-        io::print_decimal(STDOUT_FILENO, got as u64);
-        io::write_all(STDOUT_FILENO, b" as expected\n");
+        println!(rt; "{name}: {got} as expected")
     } else {
-        io::write_all(STDOUT_FILENO, b": not as expected after row ");
-        io::print_decimal(STDOUT_FILENO, got as u64);
-        io::write_all(STDOUT_FILENO, b"\n");
+        println!(rt; "{name}: not as expected after row {got}")
     }
 }
 
@@ -102,146 +100,158 @@ fn count_rows(s: &[u8], rows: &[u8]) -> usize {
 }
 
 // The texts of a kind on one line.
-fn print_texts(name: &[u8], s: &[u8], k: u8) {
-    io::write_all(STDOUT_FILENO, name);
-    let n = settings::count(s, kind_of(k));
-    let mut i: usize = 0;
-    while i < n {
-        io::write_all(STDOUT_FILENO, b" ");
-        io::write_all(STDOUT_FILENO, settings::text(s, kind_of(k), i));
-        i += 1;
+fn print_texts(rt: &impl Print, name: &str, s: &[u8], k: u8) -> io::Result<()> {
+    print!(rt; "{name}")?;
+    for i in 0..settings::count(s, kind_of(k)) {
+        print!(rt; " ")?;
+        io::writer(rt).write_all(settings::text(s, kind_of(k), i))?;
     }
-    io::write_all(STDOUT_FILENO, b"\n");
+    println!(rt)
 }
 
-fn checks() {
+fn checks(rt: &impl Print) -> io::Result<()> {
     report(
-        b"accepted",
+        rt,
+        "accepted",
         check_rows(
             b",\x01\x01\x01\x01\x01\x01\x06\x03\x04\x05\x07\x07import.jsmainindexexportsimports\x08\x00\x00\x00\x00\x00\x01\x01i\x09\x00\x01\x00\x00\x00\x01\x00\x01i4\x08\x08\x04\x04\x02\x01\x01\x01\x01\x01\x01\x01\x01\x01\x00\x00\x00\x00\x00\x00\x00\x00\x01\x01\x01\x01\x01\x01\x01\x01\x01\x01\x01aaaaaaaabbbbccccdde\xCC\x01\x01\x01\x01\x01\x01      xxxxxxxxxxxxxxxxxxxxxxxxxxxxxxxxyyyyyyyyyyyyyyyyyyyyyyyyyyyyyyyyzzzzzzzzzzzzzzzzzzzzzzzzzzzzzzzzuuuuuuuuuuuuuuuuuuuuuuuuuuuuuuuuvvvvvvvvvvvvvvvvvvvvvvvvvvvvvvvvwwwwwwwwwwwwwwwwwwwwwwwwwwwwwwww\x17\x01\x01\x01\x01\x01\x01\x03\x01\x01\x02\x03\x01n\xC3\xA9....a\\b#\x14\x02\x02\x00\x00\x00\x01\x01\x01\x03\x03\x01aa.js.jsa",
             true,
         ),
         7,
-    );
+    )?;
     report(
-        b"counts over the limit",
+        rt,
+        "counts over the limit",
         check_rows(
             b"\x1A\x09\x00\x00\x00\x00\x01\x01\x01\x01\x01\x01\x01\x01\x01\x01\x01aaaaaaaaai\x1A\x00\x09\x00\x00\x00\x01\x01\x01\x01\x01\x01\x01\x01\x01\x01\x01aaaaaaaaai\x12\x00\x00\x05\x00\x00\x01\x01\x01\x01\x01\x01\x01aaaaai\x12\x00\x00\x00\x05\x00\x01\x01\x01\x01\x01\x01\x01aaaaai\x0E\x00\x00\x00\x00\x03\x01\x01\x01\x01\x01aaai\x0A\x00\x00\x00\x00\x00\x02\x01\x01aa",
             false,
         ),
         6,
-    );
+    )?;
     report(
-        b"no imports field",
+        rt,
+        "no imports field",
         check_rows(
             b"\x06\x00\x00\x00\x00\x00\x00$\x01\x01\x01\x01\x01\x00\x06\x03\x04\x05\x07import.jsmainindexexports#\x01\x01\x01\x01\x01\x06\x03\x04\x05\x07import.jsmainindexexports\x05\x00\x00\x00\x00\x00",
             false,
         ),
         4,
-    );
+    )?;
     report(
-        b"texts of 33 bytes",
+        rt,
+        "texts of 33 bytes",
         check_rows(
             b"*\x01\x00\x00\x00\x00\x01!\x01xxxxxxxxxxxxxxxxxxxxxxxxxxxxxxxxxi*\x00\x01\x00\x00\x00\x01!\x01xxxxxxxxxxxxxxxxxxxxxxxxxxxxxxxxxi*\x00\x00\x01\x00\x00\x01!\x01xxxxxxxxxxxxxxxxxxxxxxxxxxxxxxxxxi*\x00\x00\x00\x01\x00\x01!\x01xxxxxxxxxxxxxxxxxxxxxxxxxxxxxxxxxi*\x00\x00\x00\x00\x01\x01!\x01xxxxxxxxxxxxxxxxxxxxxxxxxxxxxxxxxi(\x00\x00\x00\x00\x00\x01!xxxxxxxxxxxxxxxxxxxxxxxxxxxxxxxxx",
             false,
         ),
         6,
-    );
+    )?;
     report(
-        b"empty texts",
+        rt,
+        "empty texts",
         check_rows(
             b"\x09\x01\x00\x00\x00\x00\x01\x00\x01i\x09\x00\x00\x01\x00\x00\x01\x00\x01i\x09\x00\x00\x00\x01\x00\x01\x00\x01i\x09\x00\x00\x00\x00\x01\x01\x00\x01i\x07\x00\x00\x00\x00\x00\x01\x00",
             false,
         ),
         5,
-    );
+    )?;
     report(
-        b"slash, byte 0 and bad UTF-8",
+        rt,
+        "slash, byte 0 and bad UTF-8",
         check_rows(
             b"\x0C\x01\x00\x00\x00\x00\x01\x03\x01a/bi\x0A\x00\x01\x00\x00\x00\x01\x01\x01/i\x0B\x00\x00\x01\x00\x00\x01\x02\x01a\x00i\x0A\x00\x00\x00\x01\x00\x01\x01\x01\x00i\x0A\x00\x00\x00\x00\x01\x01\x01\x01\xFFi\x0C\x00\x01\x00\x00\x00\x01\x03\x01.\xC0\x80i\x0C\x01\x00\x00\x00\x00\x01\x03\x01\xED\xA0\x80i\x12\x01\x01\x01\x00\x00\x01\x02\x03\x02\x01ok.js\xE2\x82i\x0C\x00\x02\x00\x00\x00\x01\x01\x01\x01a\xC3i\x0A\x00\x00\x00\x00\x00\x01\x03a/b\x09\x00\x00\x00\x00\x00\x01\x02i\x00\x08\x00\x00\x00\x00\x00\x01\x01\xFF",
             false,
         ),
         12,
-    );
+    )?;
     report(
-        b"cut off or too long",
+        rt,
+        "cut off or too long",
         check_rows(
             b"\x00\x04\x01\x01\x01\x01\x05\x01\x01\x01\x01\x01\x06\x01\x01\x01\x01\x01\x01\x08\x01\x01\x01\x01\x01\x01\x06\x03\x0C\x01\x01\x01\x01\x01\x01\x06\x03\x04\x05\x07\x07+\x01\x01\x01\x01\x01\x01\x06\x03\x04\x05\x07\x07import.jsmainindexexportsimport-\x01\x01\x01\x01\x01\x01\x06\x03\x04\x05\x07\x07import.jsmainindexexportsimports\x00-\x01\x01\x01\x01\x01\x01\x06\x03\x04\x05\x07\x07import.jsmainindexexportsimportsx\x09\x00\x00\x00\x00\x00\x01\x01i\x00\x06\x01\x00\x00\x00\x00\x01\x09\x01\x00\x00\x00\x00\x01\x02\x01a\x07\x00\x00\x00\x00\x00\x01\xFF\x08\x00\x00\x00\x00\x00\x01\x02i",
             false,
         ),
         14,
-    );
+    )
 }
 
-fn texts() {
+fn texts(rt: &impl Print) -> io::Result<()> {
     report(
-        b"texts by kind",
+        rt,
+        "texts by kind",
         text_rows(
             b"\x02\x03\x01\x02\x01\x01\x06\x04\x03\x00\x05\x04\x05\x07\x07\x07importnode.js.jsonmainindexdefaultexportsimports",
             b"\x00\x00\x06import\x00\x01\x04node\x00\x02\x00\x01\x00\x03.js\x01\x01\x00\x01\x02\x05.json\x01\x03\x00\x02\x00\x04main\x02\x01\x00\x03\x00\x05index\x03\x01\x07default\x03\x02\x00\x04\x00\x07exports\x04\x01\x00\x05\x00\x07imports\x05\x01\x00\x00\xFF\x00",
         ),
         17,
-    );
+    )?;
     report(
-        b"counts by kind",
+        rt,
+        "counts by kind",
         count_rows(
             b"\x02\x03\x01\x02\x01\x01\x06\x04\x03\x00\x05\x04\x05\x07\x07\x07importnode.js.jsonmainindexdefaultexportsimports",
             b"\x00\x02\x01\x03\x02\x01\x03\x02\x04\x01\x05\x01",
         ),
         6,
-    );
+    )?;
     report(
-        b"texts of cut settings",
+        rt,
+        "texts of cut settings",
         text_rows(
             b"\x01\x02\x00\x00\x01\x01\x02\x03\x01\x04\x02abcdefg",
             b"\x00\x00\x02ab\x01\x00\x03cde\x01\x01\x01f\x04\x00\x01g\x04\x01\x00\x05\x00\x00",
         ),
         6,
-    );
+    )?;
     report(
-        b"counts of cut settings",
+        rt,
+        "counts of cut settings",
         count_rows(
             b"\x01\x02\x00\x00\x01\x01\x02\x03\x01\x04\x02abcdefg",
             b"\x00\x01\x01\x02\x02\x00\x03\x00\x04\x01\x05\x01",
         ),
         6,
-    );
+    )?;
     report(
-        b"texts without bytes",
+        rt,
+        "texts without bytes",
         text_rows(
             b"\x02\x01\x00\x00\x00\x01\x01\x01",
             b"\x00\x00\x00\x00\x01\x00\x01\x00\x00\x04\x00\x00\x05\x00\x00",
         ),
         5,
-    );
+    )?;
     report(
-        b"counts without bytes",
+        rt,
+        "counts without bytes",
         count_rows(
             b"\x02\x01\x00\x00\x00\x01\x01\x01",
             b"\x00\x02\x01\x00\x02\x00\x03\x00\x04\x00\x05\x00",
         ),
         6,
-    );
+    )?;
     report(
-        b"texts of nothing",
+        rt,
+        "texts of nothing",
         text_rows(b"", b"\x00\x00\x00\x04\x00\x00\x05\x00\x00"),
         3,
-    );
+    )?;
     report(
-        b"counts of nothing",
+        rt,
+        "counts of nothing",
         count_rows(b"", b"\x00\x00\x04\x00\x05\x00"),
         3,
-    );
+    )
 }
 
-fn main() {
-    checks();
-    texts();
+fn main(rt: HostRuntime) -> io::Result<()> {
+    checks(&rt)?;
+    texts(&rt)?;
     let s = b"\x01\x01\x01\x01\x01\x01\x06\x03\x04\x05\x07\x07import.jsmainindexexportsimports";
-    print_texts(b"conditions:", s, 0);
-    print_texts(b"extensions:", s, 1);
-    print_texts(b"main fields:", s, 2);
-    print_texts(b"main files:", s, 3);
-    print_texts(b"exports fields:", s, 4);
-    print_texts(b"imports field:", s, 5);
+    print_texts(&rt, "conditions:", s, 0)?;
+    print_texts(&rt, "extensions:", s, 1)?;
+    print_texts(&rt, "main fields:", s, 2)?;
+    print_texts(&rt, "main files:", s, 3)?;
+    print_texts(&rt, "exports fields:", s, 4)?;
+    print_texts(&rt, "imports field:", s, 5)
 }

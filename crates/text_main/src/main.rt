@@ -1,22 +1,19 @@
 // Runs texts with known answers through the functions of `text` and `utf8`, and prints for each group how many are as expected.
 // A table is a byte string of rows. A driver counts its rows up to the first that is not as expected.
-use libc::STDOUT_FILENO;
+#![tactic(auto)]
+
+use std::io;
 
 fn wide(b: u8) -> usize {
     b as usize
 }
 
 // The group's name, and how many of its rows are as expected; or the number of the last that is.
-fn report(name: &[u8], got: usize, rows: usize) {
-    io::write_all(STDOUT_FILENO, name);
+fn report(rt: &impl Print, name: &str, got: usize, rows: usize) -> io::Result<()> {
     if got == rows {
-        io::write_all(STDOUT_FILENO, b": ");
-        io::print_decimal(STDOUT_FILENO, got as u64);
-        io::write_all(STDOUT_FILENO, b" as expected\n");
+        println!(rt; "{name}: {got} as expected")
     } else {
-        io::write_all(STDOUT_FILENO, b": not as expected after row ");
-        io::print_decimal(STDOUT_FILENO, got as u64);
-        io::write_all(STDOUT_FILENO, b"\n");
+        println!(rt; "{name}: not as expected after row {got}")
     }
 }
 
@@ -42,12 +39,10 @@ fn utf8_rows(rows: &[u8], good: bool) -> usize {
 
 // No shorter start of a character is UTF-8, the empty one apart.
 fn cuts_refused(t: &[u8]) -> bool {
-    let mut n: usize = 1;
-    while n < t.len() {
-        if utf8::is_utf8(&t[0..n]) {
+    for n in 1..t.len() {
+        if utf8::is_utf8(&t[..n]) {
             return false;
         }
-        n += 1;
     }
     true
 }
@@ -74,15 +69,13 @@ fn cut_rows(rows: &[u8]) -> usize {
 
 // Of the texts of one byte those below 128 are UTF-8.
 fn single_bytes() -> usize {
-    let mut n: usize = 0;
-    while n < 256 {
+    for n in 0..256usize {
         let s = [n as u8; 1];
         if utf8::is_utf8(&s) != (n < 128) {
             return n;
         }
-        n += 1;
     }
-    n
+    256
 }
 
 fn test(which: u8, a: &[u8], b: &[u8]) -> bool {
@@ -206,148 +199,158 @@ fn filled(n: usize) -> bool {
     let mut e = [7u32; 8];
     text::zero_from(&mut d, n);
     text::zero_from_u32(&mut e, n);
-    let mut i: usize = 0;
-    while i < 8 {
+    for i in 0..8usize {
         if (d[i] == 7) != (i < n) {
             return false;
         }
         if (e[i] == 7) != (i < n) {
             return false;
         }
-        i += 1;
     }
     true
 }
 
 // The fill from each place on, and from past the end.
 fn fills() -> usize {
-    let mut n: usize = 0;
-    while n < 10 {
+    for n in 0..10usize {
         if !filled(n) {
             return n;
         }
-        n += 1;
     }
-    n
+    10
 }
 
-fn utf8() {
-    report(b"utf8, each byte alone", single_bytes(), 256);
+fn utf8(rt: &impl Print) -> io::Result<()> {
+    report(rt, "utf8, each byte alone", single_bytes(), 256)?;
     report(
-        b"utf8, the examples of RFC 3629",
+        rt,
+        "utf8, the examples of RFC 3629",
         utf8_rows(
             b"\x07A\xE2\x89\xA2\xCE\x91.\x09\xED\x95\x9C\xEA\xB5\xAD\xEC\x96\xB4\x09\xE6\x97\xA5\xE6\x9C\xAC\xE8\xAA\x9E\x07\xEF\xBB\xBF\xF0\xA3\x8E\xB4",
             true,
         ),
         4,
-    );
+    )?;
     report(
-        b"utf8, first and last of each form",
+        rt,
+        "utf8, first and last of each form",
         utf8_rows(
             b"\x01\x00\x01\x7F\x02\xC2\x80\x02\xDF\xBF\x03\xE0\xA0\x80\x03\xE0\xBF\xBF\x03\xE1\x80\x80\x03\xEC\xBF\xBF\x03\xED\x80\x80\x03\xED\x9F\xBF\x03\xEE\x80\x80\x03\xEF\xBF\xBF\x04\xF0\x90\x80\x80\x04\xF0\xBF\xBF\xBF\x04\xF1\x80\x80\x80\x04\xF3\xBF\xBF\xBF\x04\xF4\x80\x80\x80\x04\xF4\x8F\xBF\xBF\x00\x04a\xC3\xA9b\x07\xF0\x9F\x98\x80\xE2\x82\xAC",
             true,
         ),
         21,
-    );
+    )?;
     report(
-        b"utf8, cut off",
+        rt,
+        "utf8, cut off",
         cut_rows(
             b"\x02\xC2\x80\x02\xDF\xBF\x03\xE0\xA0\x80\x03\xE0\xBF\xBF\x03\xE1\x80\x80\x03\xEC\xBF\xBF\x03\xED\x80\x80\x03\xED\x9F\xBF\x03\xEE\x80\x80\x03\xEF\xBF\xBF\x04\xF0\x90\x80\x80\x04\xF0\xBF\xBF\xBF\x04\xF1\x80\x80\x80\x04\xF3\xBF\xBF\xBF\x04\xF4\x80\x80\x80\x04\xF4\x8F\xBF\xBF",
         ),
         16,
-    );
+    )?;
     report(
-        b"utf8, overlong",
+        rt,
+        "utf8, overlong",
         utf8_rows(
             b"\x02\xC0\x80\x02\xC1\xBF\x03\xE0\x80\x80\x03\xE0\x9F\xBF\x04\xF0\x80\x80\x80\x04\xF0\x8F\xBF\xBF",
             false,
         ),
         6,
-    );
+    )?;
     report(
-        b"utf8, surrogates",
+        rt,
+        "utf8, surrogates",
         utf8_rows(
             b"\x03\xED\xA0\x80\x03\xED\xAF\xBF\x03\xED\xB0\x80\x03\xED\xBF\xBF\x06\xED\xA0\x80\xED\xB0\x80",
             false,
         ),
         5,
-    );
+    )?;
     report(
-        b"utf8, past the last character",
+        rt,
+        "utf8, past the last character",
         utf8_rows(
             b"\x04\xF4\x90\x80\x80\x04\xF4\xBF\xBF\xBF\x04\xF5\x80\x80\x80\x04\xF7\xBF\xBF\xBF\x05\xF8\x88\x80\x80\x80\x06\xFC\x84\x80\x80\x80\x80\x02\xFE\xFF\x02\xFF\xFE",
             false,
         ),
         8,
-    );
+    )?;
     report(
-        b"utf8, out of place",
+        rt,
+        "utf8, out of place",
         utf8_rows(
             b"\x01\x80\x01\xBF\x02A\x80\x02\xC2A\x02\xC2\xC0\x03\xC2\x80\x80\x03\xE1A\x80\x03\xE1\x80A\x03\xE1\x80\xC0\x04\xF1A\x80\x80\x04\xF1\x80A\x80\x04\xF1\x80\x80A\x04\xF0\x90A\x80\x04\xF4\x8F\x80A\x03\xE2\x82A\x03ab\xC3",
             false,
         ),
         16,
-    );
+    )
 }
 
-fn tests() {
+fn tests(rt: &impl Print) -> io::Result<()> {
     report(
-        b"equal",
+        rt,
+        "equal",
         pair_rows(
             b"=y\x00\x00=y\x03\x03abcabc=n\x03\x03abcabd=n\x03\x02abcab=n\x00\x01a=n\x03\x03abcAbc",
         ),
         6,
-    );
+    )?;
     report(
-        b"equal but for the case",
+        rt,
+        "equal but for the case",
         pair_rows(
             b"~y\x0C\x0Cnode_modulesNODE_Modules~y\x06\x06@AZaz[@azAZ[~n\x01\x01@`~n\x01\x01[{~n\x02\x03ababc~y\x00\x00~n\x02\x02\xC3\x89\xC3\xA9",
         ),
         7,
-    );
+    )?;
     report(
-        b"order",
+        rt,
+        "order",
         pair_rows(
             b"<n\x00\x00<y\x00\x01a<n\x01\x00a<y\x02\x03ababc<n\x03\x02abcab<y\x03\x03abcabd<n\x03\x03abdabc<n\x03\x03abcabc<y\x02\x02a\x7Fa\x80<y\x03\x03a-ba/b<y\x01\x01Ba<y\x03\x01abzb",
         ),
         12,
-    );
+    )?;
     report(
-        b"start and end",
+        rt,
+        "start and end",
         pair_rows(
             b"^y\x03\x02abcab^y\x03\x00abc^y\x03\x03abcabc^n\x03\x04abcabcd^n\x03\x01abcb^n\x00\x01a$y\x03\x02abcbc$y\x03\x00abc$y\x03\x03abcabc$n\x03\x04abczabc$n\x03\x01abcb$n\x00\x01a",
         ),
         12,
-    );
+    )?;
     report(
-        b"text in a text",
+        rt,
+        "text in a text",
         pair_rows(
             b"*y\x00\x00*y\x03\x00abc*n\x00\x01a*y\x03\x02aabab*y\x03\x01abcc*n\x03\x02abcac*n\x02\x03ababc*y\x10\x0Ea/node_modules/b/node_modules/",
         ),
         8,
-    );
+    )
 }
 
-fn places() {
+fn places(rt: &impl Print) -> io::Result<()> {
     report(
-        b"places and counts of a byte",
+        rt,
+        "places and counts of a byte",
         byte_rows(
             b"#a\x00\x00#a\x03\x06banana#z\x00\x06banana>a\x01\x06banana>b\x00\x06banana>z\x06\x06banana>z\x00\x002a\x03\x06banana2n\x02\x06banana2b\x06\x06banana2b\x02\x01b?n\x01\x06banana?z\x00\x06banana?z\x00\x00<a\x05\x06banana<b\x00\x06banana<n\x04\x06banana<z\x06\x06banana<z\x00\x00",
         ),
         19,
-    );
+    )?;
     report(
-        b"copy",
+        rt,
+        "copy",
         copy_rows(
             b"\x00\x03XYZXYZdefgh\x05\x03XYZabcdeXYZ\x06\x03XYZabcdefXY\x07\x03XYZabcdefgX\x08\x03XYZabcdefgh\xC8\x03XYZabcdefgh\x03\x00abcdefgh\x00\x0AABCDEFGHIJABCDEFGH\x02\x0AABCDEFGHIJabABCDEF",
         ),
         9,
-    );
-    report(b"fill", fills(), 10);
+    )?;
+    report(rt, "fill", fills(), 10)
 }
 
-fn main() {
-    utf8();
-    tests();
-    places();
+fn main(rt: HostRuntime) -> io::Result<()> {
+    utf8(&rt)?;
+    tests(&rt)?;
+    places(&rt)
 }

@@ -7,8 +7,7 @@ fault_ending-requires c = rw c.first.ensures c.requires
 
 pub returns-in-Root : goal.returns-in-Root
 returns-in-Root c =
-    let r = c.checked-1.given in
-    let k = root_told _ r.0.0 (rw (c.contents.ensures, r.1) at c.check-checked.ensures) in
+    let k = root_told _ c.in-Root.root (rw (c.contents.ensures, c.in-Root.is) at c.check-checked.ensures) in
     record { done = λ G ns t. judged_root _ _ _ (k.seen G); held = k.stands }
 
 pub returns-in-Fault : goal.returns-in-Fault

@@ -14,7 +14,7 @@ returns-in_default c =
     let o = c.own-found in
     let g = settings_of c.args.s.now in
     is_done _ (enough _ c.if-work-lt1024.false)
-    (own_ended g c.args.l.now o.result.way o.result.package _ c.in_default.in_default-own.keys2 (o.ensures.0 g))
+    (own_ended g c.args.l.now o.result.way o.result.package _ c.in_default.in_default-own.keys2 (o.ensures.done g))
 
 pub returns-in_default-package : goal.returns-in_default-package
 returns-in_default-package c =
@@ -26,9 +26,9 @@ returns-in_default-package c =
 pub returns : goal.returns
 returns c =
     let o = c.own-found in
-    let p = c.package-1.given in
+    let p = c.in-At.is in
     let g = settings_of c.args.s.now in
     let m = c.contents-manifest.ensures in
     is_done _ (enough _ c.if-work-lt1024.false)
-    (directory_manifest g _ _ (rw (c.in-Next.is, p.1) at (o.ensures.0 g))
-    (c.load_by_manifest.ensures _ (rw m (rw p.1 at o.ensures.1.0))))
+    (directory_manifest g _ _ (rw (c.in-Next.is, p) at (o.ensures.done g))
+    (c.load_by_manifest.ensures _ (rw m (rw p at o.ensures.held))))

@@ -37,5 +37,5 @@ returns c =
     let asked = asked_for one.1.1 start.settings.now url _ c.matched_part.ensures in
     applied one.1.1 url conditions _ target.result
     ∙ target.ensures.result_after (request_for url conditions one.0) one.0.target
-    (omega (arith, chosen.ensures.value.1, c.requires)) asked one.1.1.there
+    (omega (arith, chosen.ensures.work_len_unchanged, c.requires)) asked one.1.1.there
     ∙ imports_some url conditions mk (entries ms) (context_of m start.c) one.0 one.1.0

@@ -24,11 +24,11 @@ returns-in_default-package c =
     rw c.next.ensures (is_done _ (fits 22 512 _ _ c.if-work-lt1024.false c.if-sub-gt512.false) (package_bare g _ _ _ (rw (c.in-Next.is, c.in_default-package.is) at (c.own-found.ensures.done g))))
 
 pub by_exports-requires : goal.by_exports-requires
-by_exports-requires c = (c.if-work-lt1024.false, c.if-sub-gt512.false, rw (c.in-Next.is, c.in-At.is) at c.own-found.ensures.held.1)
+by_exports-requires c = (c.if-work-lt1024.false, c.if-sub-gt512.false, rw (c.in-Next.is, c.in-At.is) at c.own-found.ensures.fits)
 
 pub returns : goal.returns
 returns c =
     let o = c.own-found in
     let p = c.package-1.given in
     let g = settings_of c.args.s.now in
-    is_done _ (fits 22 512 _ _ c.if-work-lt1024.false c.if-sub-gt512.false) (package_manifest g _ _ _ _ (rw (c.in-Next.is, p.1) at (o.ensures.done g)) (c.by_exports.ensures _ (rw c.contents-manifest.ensures (rw p.1 at o.ensures.held.0))))
+    is_done _ (fits 22 512 _ _ c.if-work-lt1024.false c.if-sub-gt512.false) (package_manifest g _ _ _ _ (rw (c.in-Next.is, p.1) at (o.ensures.done g)) (c.by_exports.ensures _ (rw c.contents-manifest.ensures (rw p.1 at o.ensures.held))))

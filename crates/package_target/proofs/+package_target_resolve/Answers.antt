@@ -56,8 +56,7 @@ returns-then-not-passed t c =
           c.next_element-next.result c.next_element-next.ensures _
           c.package_target_resolve-r.result
           (λ j s. c.package_target_resolve-r.ensures.result_after q j (omega
-          (arith, c.loop-left.invariant.0, w)) a s) (sym c.is_passed-passed.ensures ∙ not-true _
-          c.if-not-passed.true));
+          (arith, c.loop-left.invariant.0, w)) a s) (sym c.is_passed-passed.ensures ∙ c.if-not-passed.true));
       work_len_unchanged = c.package_target_resolve-r.auto.work
           ∙ c.loop-left.invariant.0;
     }
@@ -70,8 +69,7 @@ loop-left-preserved t c = (
       c.next_element-next.result c.next_element-next.ensures _
       c.package_target_resolve-r.result
       (λ j s. c.package_target_resolve-r.ensures.result_after q j (omega
-      (arith, c.loop-left.invariant.0, w)) a s) (sym c.is_passed-passed.ensures ∙ not-false _
-      c.if-not-passed.false),
+      (arith, c.loop-left.invariant.0, w)) a s) (sym c.is_passed-passed.ensures ∙ c.if-not-passed.false),
 )
 
 pub returns-then-depth-eq0-2 : goal.returns-then-depth-eq0-2
@@ -111,8 +109,7 @@ returns-then-not-passed-2 t c =
           c.take_turn-value.ensures.by_index c.if-value-m.true _
           c.package_target_resolve-r-then-value-m.result
           (λ j s. c.package_target_resolve-r-then-value-m.ensures.result_after q j (omega
-          (arith, c.loop-left-2.invariant.0, w)) a s) (sym c.is_nothing-passed.ensures ∙ not-true _
-          c.if-not-passed-2.true));
+          (arith, c.loop-left-2.invariant.0, w)) a s) (sym c.is_nothing-passed.ensures ∙ c.if-not-passed-2.true));
       work_len_unchanged = c.package_target_resolve-r-then-value-m.auto.work
           ∙ c.loop-left-2.invariant.0;
     }
@@ -127,8 +124,7 @@ loop-left-2-preserved-then-value-m t c = (
       c.take_turn-value.result c.take_turn-value.ensures.by_index c.if-value-m.true _
       c.package_target_resolve-r-then-value-m.result
       (λ j s. c.package_target_resolve-r-then-value-m.ensures.result_after q j (omega
-      (arith, c.loop-left-2.invariant.0, w)) a s) (sym c.is_nothing-passed.ensures ∙ not-false _
-      c.if-not-passed-2.false) c.next_member-next.result c.next_member-next.ensures,
+      (arith, c.loop-left-2.invariant.0, w)) a s) (sym c.is_nothing-passed.ensures ∙ c.if-not-passed-2.false) c.next_member-next.result c.next_member-next.ensures,
 )
 
 pub loop-left-2-preserved : goal.loop-left-2-preserved
