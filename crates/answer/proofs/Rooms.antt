@@ -11,7 +11,7 @@ use Rattle.listing_check.specs.declared.Checked.TheVariants.{Accepted, Refused}
 use Rattle.consults.specs.Tape.{most}
 use Rattle.consults.specs.declared.Ending.{Ending}
 use Rattle.consults.specs.declared.Mark.{Mark}
-use Rattle.answer.specs.Room.{is_answer_number, text_length, numbers_length, texts_fit, list_fits, Room, checked_by}
+use Rattle.answer.specs.Room.{is_answer_number, numbers_length, texts_fit, list_fits, Room, checked_by}
 
 -- what is left of a room, and the whole
 pub leb_less : (a b c r : ℕ) → a + b ≤ r → leb c (r - a - b) ≡ leb (a + b + c) r

@@ -1,8 +1,7 @@
 -- A LOOP OF THE CODE AGAINST `for_each`. In a turn that begins with the tape t, what is left of the list l₀ is l: whatever
 -- finishes l from t finishes l₀ from t₀. Assumes nothing.
-use Rattle.std.specs.Prelude.{◌≡◌, refl, List, [], ◌∷◌, ◌++◌}
-use Rattle.std.proofs.Common.{sym, ◌∙◌, ap}
-use Rattle.definition.specs.Ask.{Listing, Step, go, stop, Ask, ◌>>=◌, ◌>>◌}
+use Rattle.std.specs.Prelude.{◌≡◌, List, [], ◌∷◌}
+use Rattle.definition.specs.Ask.{Listing, Step, go, stop, ◌>>◌}
 use Rattle.definition.specs.Json.{Fault}
 use Rattle.definition.specs.Manifest.{Manifest}
 use Rattle.definition.specs.Walk.{Look, for_each}

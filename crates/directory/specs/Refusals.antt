@@ -1,5 +1,5 @@
 -- A function that wants work memory does what a routine of the definition does, or refuses by a number before it has looked at anything.
-use Rattle.std.specs.Prelude.{◌≡◌, [], ℕ, leb, if◌then◌else◌}
+use Rattle.std.specs.Prelude.{[], ℕ, leb, if◌then◌else◌}
 use Rattle.std.proofs.Math.Option.{Option, none, some}
 use Rattle.definition.specs.Ask.{Listing, Step, stop, Ask}
 use Rattle.definition.specs.Manifest.{End}

@@ -8,7 +8,7 @@ use Rattle.definition.specs.JsonAt.{Told, text_at}
 use Rattle.package_json.specs.Values.{Stands}
 use Rattle.laws.specs.ListingSteps.{part}
 use Rattle.definition.specs.Settings.{Settings}
-use Rattle.definition.specs.Ask.{Step, go, stop, Ask, ret, ◌>>=◌, ◌>>◌}
+use Rattle.definition.specs.Ask.{Step, go, stop, ret, ◌>>=◌, ◌>>◌}
 use Rattle.definition.specs.Manifest as definition
 use Rattle.definition.specs.Manifest.{Place, manifest_view, if_text, field}
 use Rattle.definition.specs.Walk as walk

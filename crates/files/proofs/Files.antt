@@ -1,8 +1,8 @@
 -- LOAD_AS_FILE and LOAD_INDEX: the code's paths and loops as the definition's. Assumes nothing.
-use mathlib.Core.Path.{◌≡◌, refl, sym, ◌∙◌, ap}
+use mathlib.Core.Path.{◌≡◌, refl, sym, ◌∙◌}
 use mathlib.Core.Bool.{Bool, true, false}
 use mathlib.Core.List.{List, [], ◌∷◌, ◌++◌}
-use Prim.Native.Nat.{ℕ, suc, ◌+◌, ◌≤◌, ◌<◌}
+use Prim.Native.Nat.{ℕ, ◌+◌, ◌≤◌, ◌<◌}
 use native.Mathlib.Omega.{arith}
 use native.Mathlib.Numerals.{add-one}
 use borrow.Author.Tests.{lt-leb, leb-false}
@@ -13,12 +13,11 @@ use Rattle.std.specs.Prelude.{if◌then◌else◌}
 use Rattle.definition.specs.Text.{Text, text}
 use Rattle.definition.specs.Path.{Built, built, too_long, and_path, limited, add_extension, add_name_and_extension}
 use Rattle.definition.specs.Settings.{Settings}
-use Rattle.definition.specs.Ask.{Listing, Step, go, stop, ◌>>=◌, ◌>>◌}
+use Rattle.definition.specs.Ask.{Listing, Step, go, stop, ◌>>◌}
 use Rattle.definition.specs.Manifest.{Place}
-use Rattle.definition.specs.Walk.{Look, for_each, at, try_file, try_extension, LOAD_AS_FILE, try_index}
+use Rattle.definition.specs.Walk.{for_each, at, try_file, try_extension, LOAD_AS_FILE, try_index}
 use Rattle.consults.specs.declared.Ending.{Ending}
 use Rattle.consults.specs.Tape.{Tape, Done, done_bind, done_stop}
-use Rattle.consults.specs.Loop.{Left, left_start, left_again, left_stop, left_end}
 use Rattle.consults.specs.Meaning.{Sees, place}
 use Rattle.questions.specs.Meaning.{try_path}
 

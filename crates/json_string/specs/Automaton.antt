@@ -1,5 +1,5 @@
 -- The code's places, outputs and steps of a string's reader as the definition's.
-use Rattle.std.specs.Prelude.{◌≡◌, ℕ, zero, suc, ◌-◌, ◌≤◌, ◌<◌, Bool, true, false, List, [], ◌∷◌, eqb, ltb, if◌then◌else◌}
+use Rattle.std.specs.Prelude.{◌≡◌, ℕ, zero, suc, ◌≤◌, ◌<◌, Bool, true, false, List, [], ◌∷◌, eqb, ltb, if◌then◌else◌}
 use Rattle.std.proofs.Math.Option.{Option, none, some}
 use Rattle.definition.specs.Text.{within, utf8}
 use Rattle.definition.specs.Json as json
@@ -88,7 +88,7 @@ pub record Steps (s : json.Step) (r : Step) : Type 0 where
   pub is : step_of r ≡ s
   pub good : GoodStep r
 
--- the end of the definition's plainByte
+-- the end of the definition's plain_byte
 unfoldable pub lead_byte : ℕ → json.Step
 lead_byte b =
     if within 194 223 b then gives (b ∷ []) (sequence 1 128 191) else

@@ -17,8 +17,6 @@ use Rattle.definition.specs.Json.{got, fault, malformed, beyond, and_then, betwe
 use Rattle.json_text.specs.Scanned.{left, Reads}
 use Rattle.json_text.specs.Decoded.{Begun, plain}
 use Rattle.json_text.specs.Texts.{starts_quote}
-use Rattle.json_string.specs.declared.Place.{Place}
-use Rattle.json_string.specs.declared.Step.{Step}
 use Rattle.json_text.specs.declared.Scan.TheVariants.{End}
 use Rattle.json_string.proofs.Rules.{here, past}
 use Rattle.json_text.proofs.Laws.{left_map}

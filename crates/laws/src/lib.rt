@@ -1,4 +1,4 @@
-// Theorems and laws stand in specs/. This crate has no code of its own; a library needs a function, and this is it.
+// Laws stand in specs/, theorems in proofs/. This crate has no code of its own; a library needs a function, and this is it.
 
 #![tactic(auto)]
 

@@ -1,6 +1,6 @@
 -- From what is written at a place of a manifest to what it means.
 use mathlib.Core.Path.{◌≡◌, refl, subst}
-use mathlib.Core.Option.{Option, none, some}
+use mathlib.Core.Option.{Option}
 use Prim.Native.Nat.{ℕ, suc}
 use native.Mathlib.Omega.{arith}
 use Rattle.definition.specs.Text.{Text}

@@ -5,14 +5,14 @@ use mathlib.Core.List.{List}
 use mathlib.Core.Option.{Option, none, some}
 use Prim.Native.Nat.{ℕ, suc, ◌-◌, ◌<◌, ◌≤◌}
 use native.Mathlib.Omega.{arith}
-use borrow.Author.Tests.{ltb-true, ltb-false, lt-ltb}
+use borrow.Author.Tests.{lt-ltb}
 use lib.Dec.{ltb}
 use lib.ListN.{length, drop, get_or, set, replicate, get_or-replicate}
 use lib.Seq.{get_or-set_same, get_or-set_other}
 use Rattle.std.specs.Prelude.{if◌then◌else◌}
 use Rattle.definition.specs.Text.{Text, equal}
 use Rattle.laws.specs.TextLaws.{equal_true, equal_refl}
-use Rattle.definition.specs.Json.{Json, obj, Members, no_member, member, got, quoted}
+use Rattle.definition.specs.Json.{Json, obj, Members, member, got, quoted}
 use Rattle.definition.specs.JsonAt.{first_member, next_element, member_value}
 use Rattle.laws.specs.SettledLaws.{last_from}
 use Rattle.package_json.specs.declared.Cursor.{Cursor}

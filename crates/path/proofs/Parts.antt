@@ -10,7 +10,7 @@ use lib.Dec.{eqb, leb, ltb}
 use borrow.Author.Tests.{ltb-true, ltb-false, leb-true, leb-false, eqb-true, eqb-false}
 use Rattle.std.specs.Prelude.{if◌then◌else◌}
 use Rattle.definition.specs.Text.{text, slash, equal, starts_with, equal_ignoring_case, before, text_computes}
-use Rattle.laws.specs.TextLaws.{equal_true, starts_with_length}
+use Rattle.laws.specs.TextLaws.{equal_true}
 use Rattle.laws.specs.TextSteps.{first_inside}
 use Rattle.definition.specs.Path.{path_computes, parent_dir, normal, component, push, parent, pops, Built, built, too_long, and_path, limited, push_component, push_all, push_relative, normalize_with, normalize_relative, invalid_component, any_invalid}
 use Rattle.laws.specs.PathLaws.{limited_fits, component_up, parts, parts_more, parts_last, parts_rooted, rooted, not_rooted, any_invalid_append, push_all_append, push_relative_append, root_of, relative_parts, parent_short, room, room_high, relative_length, with_empty, with_rooted, with_parts}

@@ -20,7 +20,7 @@ use Rattle.consults.specs.Meaning.{Sees, numbers, step_of}
 use Rattle.directory.specs.Routines.{if_directory}
 use Rattle.relative.specs.Routines.{unless_folder, directory_or_none}
 use Rattle.questions.proofs.Questions.{made_long, made_fits}
-use Rattle.consults.proofs.Ways.{bind_bind, ended, way_passed, way_onward}
+use Rattle.consults.proofs.Ways.{bind_bind, ended, way_onward}
 use Rattle.consults.specs.contracts.Way
 
 -- LOAD_AS_FILE, or not

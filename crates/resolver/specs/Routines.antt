@@ -3,7 +3,7 @@ use Rattle.std.specs.Prelude.{◌⊎◌, ℕ, ◌<◌}
 use Rattle.definition.specs.Text.{Text}
 use Rattle.definition.specs.Specifier.{climbing}
 use Rattle.definition.specs.Settings.{Settings}
-use Rattle.definition.specs.Ask.{◌>>=◌, ◌>>◌}
+use Rattle.definition.specs.Ask.{◌>>◌}
 use Rattle.definition.specs.Walk.{Look, perhaps, LOAD_PACKAGE_SELF, LOAD_NODE_MODULES}
 
 -- the lookup as far as "not found"

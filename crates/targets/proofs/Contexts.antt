@@ -15,7 +15,6 @@ use Rattle.definition.specs.Exports.{or_old, with_query_fragment}
 use Rattle.json_text.specs.declared.TextAt.{TextAt}
 use Rattle.json_text.specs.Texts.{text_of, told, or_empty}
 use Rattle.targets.specs.declared.Part.{Part}
-use Rattle.targets.specs.declared.Context.{Context}
 use Rattle.targets.specs.Contexts.{read_text, string_at, part_text, Inside}
 
 module _ (m : List ℕ) (p o : Part) (i : Inside m p) where

@@ -10,7 +10,6 @@ use borrow.Author.Tests.{leb-true, leb-false, lt-ltb, le-ltb}
 use Rattle.definition.specs.Text.{text, star, contains, ends_with, replace, overwrite}
 use Rattle.definition.specs.Path.{Built, built, too_long, and_path, limited, add_extension, normalize_with, is_invalid_exports_target}
 use Rattle.laws.specs.PathLaws.{limited_fits, limited_long as limited-over, limited_append}
-use Rattle.definition.specs.Exports as exports
 use Rattle.definition.specs.Exports.{Request, found, overlong, target, directory_error, target_path, invalid_target, outcome_of, normalize_string_target}
 use Rattle.path.specs.Meaning.{path_at}
 use Rattle.path.proofs.Steps.{at_fits, at_long, put_fits}

@@ -1,7 +1,7 @@
 -- The loop's invariant: whatever finishes the main fields from i on finishes all of them from where the loop began.
 use mathlib.Core.Path.{refl, ◌∙◌}
 use mathlib.Core.List.{[]}
-use Prim.Native.Nat.{◌-◌, ◌<◌}
+use Prim.Native.Nat.{◌<◌}
 use native.Mathlib.Omega.{arith}
 use lib.ListN.{length}
 use Rattle.definition.specs.Settings.{texts_of}

@@ -1,5 +1,4 @@
 use mathlib.Core.Path.{◌≡◌}
-use mathlib.Core.List.{[]}
 use Prim.Native.Nat.{◌-◌}
 use lib.ListN.{length, drop}
 use Rattle.definition.specs.Settings.{texts_of, settings_of}

@@ -1,4 +1,3 @@
-use Prim.Native.Nat.{◌-◌}
 use Rattle.json_string.proofs.Rules.{here, past}
 use Rattle.json_text.proofs.Laws.{ended}
 use Rattle.json_scalar.specs.Scalars.{colon_at}

@@ -1,5 +1,4 @@
 use mathlib.Core.Path.{refl, sym, ◌∙◌}
-use Prim.Native.Nat.{◌-◌}
 use Rattle.definition.specs.Text.{skip_while}
 use Rattle.json_string.proofs.Rules.{here, past}
 use Rattle.json_scalar.proofs.skip_space.Goals as goal

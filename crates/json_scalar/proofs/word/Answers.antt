@@ -1,5 +1,4 @@
 use mathlib.Core.Path.{refl, ◌∙◌}
-use Prim.Native.Nat.{◌-◌}
 use Rattle.definition.specs.Json.{word}
 use Rattle.json_string.proofs.Rules.{rules}
 use Rattle.json_scalar.proofs.word.Goals as goal

@@ -1,5 +1,4 @@
 use Rattle.definition.specs.Json.{escape_byte}
-use Prim.Native.Nat.{◌-◌}
 use Rattle.json_string.proofs.Rules.{rules}
 use native.Mathlib.Omega.{arith}
 use Rattle.json_string.proofs.escape_byte.Goals as goal

@@ -2,7 +2,7 @@ use Rattle.json_string.specs.Automaton.{lead_byte}
 use Rattle.definition.specs.Text.{within}
 use mathlib.Core.Path.{sym}
 use borrow.Author.Tests.{lt-leb, ne_eqb}
-use Prim.Native.Nat.{◌≤◌, ◌-◌}
+use Prim.Native.Nat.{◌≤◌}
 use Rattle.json_string.proofs.Rules.{rules}
 use native.Mathlib.Omega.{arith}
 use Rattle.json_string.proofs.lead_byte.Goals as goal

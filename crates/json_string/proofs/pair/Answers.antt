@@ -1,6 +1,5 @@
 use Rattle.definition.specs.Text.{within}
 use Rattle.definition.specs.Json.{pair}
-use Prim.Native.Nat.{◌-◌}
 use Rattle.json_string.proofs.Rules.{rules}
 use native.Mathlib.Omega.{arith}
 use Rattle.json_string.proofs.pair.Goals as goal

@@ -1,7 +1,6 @@
 use Rattle.json_string.specs.Automaton.{lead_byte}
 use Rattle.definition.specs.Json.{plain_byte}
 use mathlib.Core.Path.{◌∙◌}
-use Prim.Native.Nat.{◌-◌}
 use Rattle.json_string.proofs.Rules.{rules}
 use Rattle.json_string.proofs.plain_byte.Goals as goal
 

@@ -1,7 +1,6 @@
 use Rattle.definition.specs.Json.{second_hex_byte}
 use mathlib.Core.Path.{sym, ◌∙◌}
 use Rattle.json_string.proofs.Steps.{second_more, fewer, in_four, digit_yes, digit_no}
-use Prim.Native.Nat.{◌-◌}
 use native.Mathlib.Omega.{arith}
 use Rattle.json_string.proofs.second_hex_byte.Goals as goal
 

@@ -3,7 +3,6 @@ use Rattle.definition.specs.Json.{step, sequence_byte}
 use mathlib.Core.Path.{sym}
 use borrow.Author.Tests.{le-leb}
 use Rattle.json_string.proofs.Steps.{seq_more}
-use Prim.Native.Nat.{◌-◌}
 use Rattle.json_string.proofs.Rules.{rules}
 use native.Mathlib.Omega.{arith}
 use Rattle.json_string.proofs.sequence_byte.Goals as goal

@@ -1,6 +1,5 @@
 use Rattle.definition.specs.Json.{step}
 use mathlib.Core.Path.{sym}
-use Prim.Native.Nat.{◌-◌}
 use Rattle.json_string.proofs.Rules.{rules}
 use native.Mathlib.Omega.{arith}
 use Rattle.json_string.proofs.transition.Goals as goal

@@ -1,6 +1,6 @@
 use Rattle.definition.specs.Text.{within}
 use Rattle.definition.specs.Json.{unit}
-use Prim.Native.Nat.{◌≤◌, ◌<◌, ◌-◌}
+use Prim.Native.Nat.{◌≤◌, ◌<◌}
 use Rattle.json_string.proofs.Rules.{rules}
 use native.Mathlib.Omega.{arith}
 use Rattle.json_string.proofs.unit.Goals as goal

@@ -1,4 +1,3 @@
-use Prim.Native.Nat.{◌-◌}
 use Rattle.json_text.proofs.Buffer.{decodes_end, decodes_fault}
 use Rattle.json_text.proofs.any_string.Goals as goal
 

@@ -1,4 +1,3 @@
-use Prim.Native.Nat.{◌-◌}
 use Rattle.json_text.proofs.Strings.{begun, begun_on}
 use Rattle.json_text.proofs.ascii.Goals as goal
 

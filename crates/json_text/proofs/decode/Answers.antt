@@ -1,5 +1,4 @@
 use mathlib.Core.Path.{refl, ◌∙◌, ap}
-use Prim.Native.Nat.{◌-◌}
 use lib.ListN.{drop}
 use Rattle.json_text.proofs.Buffer.{begin, at_end_lem, on_bad, on_close, fair, on_over, on_gives}
 use native.Mathlib.Omega.{arith}

@@ -1,5 +1,4 @@
 use mathlib.Core.Path.{sym, ◌∙◌, ap}
-use Prim.Native.Nat.{◌-◌}
 use native.Mathlib.Omega.{arith}
 use Rattle.json_text.proofs.Buffer.{decodes_end, decodes_fits, decodes_fault}
 use Rattle.definition.specs.Text.{equal}

@@ -1,4 +1,3 @@
-use Prim.Native.Nat.{◌-◌}
 use Rattle.json_text.proofs.Texts.{name_other, name_same, name_faulty}
 use Rattle.json_text.proofs.name_is.Goals as goal
 

@@ -1,5 +1,4 @@
 use mathlib.Core.Path.{sym, ◌∙◌}
-use Prim.Native.Nat.{◌-◌}
 use Rattle.json_text.proofs.Strings.{plain_on, plain_quote, plain_slash, plain_stop}
 use Rattle.json_text.proofs.plain_end.Goals as goal
 

@@ -1,5 +1,4 @@
 use mathlib.Core.Path.{refl}
-use Prim.Native.Nat.{◌-◌}
 use Rattle.json_text.proofs.Buffer.{put_one}
 use native.Mathlib.Omega.{arith}
 use borrow.Author.Rules.{rules}

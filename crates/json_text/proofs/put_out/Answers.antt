@@ -1,4 +1,3 @@
-use Prim.Native.Nat.{◌-◌}
 use Rattle.json_text.proofs.Buffer.{none_put}
 use Rattle.json_text.proofs.put_out.Goals as goal
 

@@ -1,7 +1,5 @@
 use mathlib.Core.Path.{refl}
-use Prim.Native.Nat.{◌-◌}
 use lib.ListN.{length-set}
-use Rattle.definition.specs.Text.{trail}
 use Rattle.json_text.proofs.Buffer.{put_two, put_three, put_four, utf8_one, utf8_two, utf8_three, utf8_four}
 use native.Mathlib.Omega.{arith}
 use Rattle.json_text.proofs.put_point.Goals as goal

@@ -1,5 +1,4 @@
 use mathlib.Core.Path.{refl}
-use Prim.Native.Nat.{◌-◌}
 use Rattle.json_text.proofs.Strings.{quoted_no, quoted_yes, quoted_out}
 use Rattle.json_text.proofs.quoted.Goals as goal
 

@@ -1,5 +1,5 @@
 use mathlib.Core.Path.{sym, ◌∙◌, ap}
-use Prim.Native.Nat.{◌+◌, ◌-◌}
+use Prim.Native.Nat.{◌+◌}
 use Rattle.json_text.proofs.Strings.{free, quoted_out, quoted_string, text_plain, starts_quote_lem, plain_stop_at, escape_there, no_escape}
 use Rattle.json_text.proofs.Texts.{told_none, told_plain, told_short, told_work}
 use Rattle.json_text.proofs.Laws.{was_end, was_fault}

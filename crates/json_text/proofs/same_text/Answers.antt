@@ -1,5 +1,4 @@
 use mathlib.Core.Path.{refl, ◌∙◌}
-use Prim.Native.Nat.{◌-◌}
 use Rattle.definition.specs.Json.{between}
 use Rattle.json_text.proofs.Strings.{free, quoted_beyond, quoted_string, ends_both, compared_out, verbatim_close, verbatim_short, verbatim_other, verbatim_on}
 use Rattle.json_text.proofs.same_text.Goals as goal

@@ -1,4 +1,3 @@
-use Prim.Native.Nat.{◌-◌}
 use Rattle.json_text.proofs.Strings.{begun_quote}
 use Rattle.json_text.proofs.string.Goals as goal
 

@@ -1,4 +1,3 @@
-use Prim.Native.Nat.{◌-◌}
 use Rattle.json_text.proofs.text_at.Goals as goal
 
 pub returns-in-Manifest : goal.returns-in-Manifest

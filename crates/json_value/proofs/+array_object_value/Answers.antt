@@ -1,5 +1,5 @@
 -- By the laws of `Values`: what each way out of a loop, and of `value`, reads.
-use Rattle.json_value.proofs.Values.{Elems, elems_over, elems_fault, elems_neither, elems_close, elems_more, Membs, membs_over, membs_key, membs_fault, membs_neither, membs_close, membs_more, array_cut, array_none, array_some, object_cut, object_none, object_some, value_end_lem, value_text, value_scalar, array_deep, object_deep, value_array, value_object}
+use Rattle.json_value.proofs.Values.{elems_over, elems_fault, elems_neither, elems_close, elems_more, membs_over, membs_key, membs_fault, membs_neither, membs_close, membs_more, array_cut, array_none, array_some, object_cut, object_none, object_some, value_end_lem, value_text, value_scalar, array_deep, object_deep, value_array, value_object}
 use Rattle.json_value.proofs.+array_object_value.Goals as goal
 
 pub array-returns-then-i-m : goal.array-returns-then-i-m

@@ -1,4 +1,3 @@
-use Prim.Native.Nat.{◌-◌}
 use Rattle.json_string.proofs.Rules.{here, past}
 use Rattle.definition.specs.Json.{members}
 use Rattle.json_string.proofs.Rules.{rules}

@@ -3,7 +3,7 @@
 use mathlib.Core.Path.{sym, ◌∙◌}
 use mathlib.Core.Bool.{true≢false, false≢true}
 use native.Mathlib.Omega.{arith}
-use Prim.Native.Nat.{◌-◌, ◌<◌}
+use Prim.Native.Nat.{◌<◌}
 use Rattle.laws.specs.SearchLaws.{stop_start}
 use Rattle.listing.proofs.Seek.{stop_at, ends_within, stop_none, reached_next, below_next}
 use Rattle.listing.proofs.all_below.Goals as goal

@@ -1,6 +1,5 @@
 -- Where none of the entries so far has the path, it is missing as soon as it is missing among the rest.
 use native.Mathlib.Omega.{arith}
-use Prim.Native.Nat.{◌-◌}
 use Rattle.listing.proofs.Seek.{none_at_all}
 use Rattle.listing.proofs.first_equal.Goals as goal
 

@@ -1,7 +1,7 @@
 -- An entry that is below leaves the search to the rest.
 use borrow.Author.Rules.{rules}
 use native.Mathlib.Omega.{arith}
-use Prim.Native.Nat.{◌-◌, ◌<◌}
+use Prim.Native.Nat.{◌<◌}
 use Rattle.listing.proofs.Seek.{reached_next, below_next, rest_below}
 use Rattle.listing.proofs.pass_below.Goals as goal
 

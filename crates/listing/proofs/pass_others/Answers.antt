@@ -1,6 +1,5 @@
 -- An entry that is passed over has another path, or does not lie within the bytes.
 use native.Mathlib.Omega.{arith}
-use Prim.Native.Nat.{◌-◌}
 use Rattle.listing.proofs.Seek.{reached_next, has_here, none_next}
 use Rattle.listing.proofs.pass_others.Goals as goal
 

@@ -1,6 +1,5 @@
 -- What is shared does not decide the order, so the loop may begin behind it.
 use mathlib.Core.Path.{sym, ◌∙◌}
-use Prim.Native.Nat.{◌-◌}
 use Rattle.laws.specs.TextSteps.{smaller_end, larger_here, smaller_next, take_more}
 use Rattle.laws.specs.ListingOrder.{smaller_shared}
 use native.Mathlib.Omega.{arith}

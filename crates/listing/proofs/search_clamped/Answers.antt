@@ -1,6 +1,5 @@
 -- The search among the entries from the i-th on is the search among all.
 use mathlib.Core.Path.{sym, ◌∙◌}
-use Prim.Native.Nat.{◌-◌}
 use native.Mathlib.Omega.{arith}
 use Rattle.laws.specs.SearchLaws.{here_below, here_same, here_past, place_begin, place_end}
 use Rattle.listing.proofs.search_clamped.Goals as goal

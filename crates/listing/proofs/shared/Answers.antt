@@ -1,5 +1,4 @@
 -- Four bytes are equal where their numbers are.
-use Prim.Native.Nat.{◌-◌}
 use native.Mathlib.Omega.{arith}
 use mathlib.Core.Path.{sym, ◌∙◌}
 use Rattle.laws.specs.ListingOrder.{shared_start, shared_next}

@@ -1,9 +1,8 @@
 -- The rule over the entries from the i-th on is the rule over all.
 use mathlib.Core.Path.{sym, ◌∙◌, ap}
-use Prim.Native.Nat.{◌-◌}
 use native.Mathlib.Omega.{arith}
 use Rattle.definition.specs.Text.{all}
-use Rattle.definition.specs.Listing.{entry_count, rows}
+use Rattle.definition.specs.Listing.{entry_count}
 use Rattle.laws.specs.ListingSteps.{rows_stand, rows_end, all_next, all_end, standing_start}
 use Rattle.listing_check.specs.Meaning.{rule_of}
 use Rattle.listing_check.proofs.every.Goals as goal

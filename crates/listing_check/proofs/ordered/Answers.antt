@@ -1,7 +1,6 @@
 -- The loop keeps `Kept`, and each way out of it breaks a rule.
 use borrow.Author.Rules.{rules}
 use borrow.Author.Tests.{not-true, not-false}
-use Prim.Native.Nat.{◌-◌}
 use native.Mathlib.Omega.{arith}
 use native.Mathlib.Nat.{le_trans}
 use Rattle.definition.specs.Listing.{entry_count}

@@ -1,6 +1,5 @@
 -- The marks behind j are cleared as far as i.
 use borrow.Author.Rules.{rules}
-use Prim.Native.Nat.{◌-◌}
 use native.Mathlib.Omega.{arith}
 use Rattle.laws.specs.ListingOrder.{cleared_start, cleared_next, cleared_marked}
 use Rattle.listing_check.proofs.remark.Goals as goal

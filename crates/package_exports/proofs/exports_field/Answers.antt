@@ -1,7 +1,7 @@
 -- The loop's invariant: the exports fields before i are not there.
 use mathlib.Core.Path.{◌∙◌, ap}
 use mathlib.Core.List.{[]}
-use Prim.Native.Nat.{◌-◌, ◌<◌}
+use Prim.Native.Nat.{◌<◌}
 use native.Mathlib.Omega.{arith}
 use lib.ListN.{length, drop}
 use Rattle.definition.specs.JsonAt.{get_at}

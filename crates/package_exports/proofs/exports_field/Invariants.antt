@@ -1,4 +1,3 @@
-use mathlib.Core.List.{[]}
 use Prim.Native.Nat.{◌-◌}
 use lib.ListN.{drop}
 use Rattle.definition.specs.Settings.{texts_of}

@@ -1,4 +1,3 @@
-use Prim.Native.Nat.{◌-◌}
 use Rattle.json_string.proofs.Rules.{here, past}
 use Rattle.definition.specs.JsonAt.{behind}
 use borrow.Author.Tests.{eq-eqb, ne_eqb}

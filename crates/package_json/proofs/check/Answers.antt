@@ -1,4 +1,3 @@
-use Prim.Native.Nat.{◌-◌}
 use Rattle.package_json.proofs.Whole.{check_long, check_fault, check_more, check_all}
 use Rattle.package_json.proofs.check.Goals as goal
 

@@ -1,4 +1,3 @@
-use Prim.Native.Nat.{◌-◌}
 use Rattle.definition.specs.JsonAt.{closes_bracket}
 use borrow.Author.Tests.{eq-eqb, ne_eqb}
 use Rattle.package_json.proofs.closes_bracket.Goals as goal

@@ -1,6 +1,5 @@
 use mathlib.Core.Path.{sym, ◌∙◌, ap}
 use mathlib.Core.Option.{none}
-use Prim.Native.Nat.{◌-◌}
 use Rattle.definition.specs.JsonAt.{find_member, get_at}
 use Rattle.package_json.specs.Cursors.{placed}
 use Rattle.package_json.proofs.Walks.{find_none, find_over, get_on}

@@ -1,6 +1,5 @@
 use mathlib.Core.Path.{◌≡◌}
 use mathlib.Core.Option.{none}
-use Prim.Native.Nat.{◌-◌}
 use lib.ListN.{drop}
 use Rattle.definition.specs.JsonAt.{find_member, first_member}
 use Rattle.package_json.specs.Cursors.{placed}

@@ -1,4 +1,3 @@
-use Prim.Native.Nat.{◌-◌}
 use Rattle.package_json.proofs.Whole.{mark_short, mark_first, mark_second, mark_third, mark_there}
 use Rattle.package_json.proofs.mark.Goals as goal
 

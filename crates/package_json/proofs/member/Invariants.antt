@@ -1,5 +1,4 @@
 use mathlib.Core.Path.{◌≡◌}
-use Prim.Native.Nat.{◌-◌}
 use lib.ListN.{drop}
 use Rattle.definition.specs.JsonAt.{further, next_member, first_member}
 use Rattle.package_json.specs.Cursors.{placed}

@@ -1,5 +1,4 @@
 use mathlib.Core.Path.{sym, ◌∙◌}
-use Prim.Native.Nat.{◌-◌}
 use Rattle.definition.specs.JsonAt.{member_value}
 use Rattle.package_json.proofs.member_value.Goals as goal
 

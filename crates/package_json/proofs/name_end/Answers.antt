@@ -1,5 +1,4 @@
 use mathlib.Core.Path.{sym, ◌∙◌}
-use Prim.Native.Nat.{◌-◌}
 use Rattle.json_string.proofs.Rules.{here, past}
 use Rattle.definition.specs.JsonAt.{name_end}
 use borrow.Author.Tests.{eq-eqb, ne_eqb}

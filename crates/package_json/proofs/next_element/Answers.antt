@@ -1,5 +1,4 @@
 use mathlib.Core.Path.{sym, ◌∙◌}
-use Prim.Native.Nat.{◌-◌}
 use Rattle.definition.specs.JsonAt.{next_element}
 use Rattle.package_json.proofs.next_element.Goals as goal
 

@@ -1,5 +1,4 @@
 use mathlib.Core.Path.{sym, ◌∙◌}
-use Prim.Native.Nat.{◌-◌}
 use Rattle.definition.specs.JsonAt.{next_member}
 use Rattle.package_json.proofs.next_member.Goals as goal
 

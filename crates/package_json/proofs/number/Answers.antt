@@ -1,4 +1,3 @@
-use Prim.Native.Nat.{◌-◌}
 use Rattle.definition.specs.Json.{fault_number}
 use Rattle.package_json.proofs.number.Goals as goal
 

@@ -1,5 +1,4 @@
 use mathlib.Core.Path.{sym, ◌∙◌, ap}
-use Prim.Native.Nat.{◌-◌}
 use native.Mathlib.Omega.{arith}
 use Rattle.package_json.proofs.Walks.{onward_text, onward_open, onward_out, onward_close, onward_on}
 use Rattle.definition.specs.JsonAt.{then_at, outside, bracket_end}

@@ -1,4 +1,3 @@
-use Prim.Native.Nat.{◌-◌}
 use Rattle.definition.specs.JsonAt.{opens_bracket}
 use borrow.Author.Tests.{eq-eqb, ne_eqb}
 use Rattle.package_json.proofs.opens_bracket.Goals as goal

@@ -1,5 +1,4 @@
 use mathlib.Core.Path.{sym, ◌∙◌, ap}
-use Prim.Native.Nat.{◌-◌}
 use Rattle.package_json.specs.Cursors.{checked_of, number_of}
 use Rattle.package_json.proofs.package_json_check.Goals as goal
 

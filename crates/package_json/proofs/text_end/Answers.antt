@@ -1,6 +1,4 @@
 use mathlib.Core.Path.{refl, sym, ◌∙◌}
-use mathlib.Core.Bool.{false}
-use Prim.Native.Nat.{◌-◌}
 use native.Mathlib.Omega.{arith}
 use Rattle.package_json.proofs.Walks.{text_cut, text_quote, text_escape_cut, text_escape_on, text_none}
 use Rattle.package_json.proofs.text_end.Goals as goal

@@ -1,5 +1,4 @@
 use mathlib.Core.Path.{sym, ◌∙◌}
-use Prim.Native.Nat.{◌-◌}
 use Rattle.json_string.proofs.Rules.{here, past}
 use Rattle.definition.specs.JsonAt.{unless_closed}
 use Rattle.package_json.proofs.unless_closed.Goals as goal

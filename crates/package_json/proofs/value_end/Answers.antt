@@ -1,5 +1,4 @@
 use mathlib.Core.Path.{sym, ◌∙◌}
-use Prim.Native.Nat.{◌-◌}
 use Rattle.json_string.proofs.Rules.{here, past}
 use Rattle.package_json.proofs.Walks.{rest_some, rest_none}
 use Rattle.definition.specs.JsonAt.{value_end}

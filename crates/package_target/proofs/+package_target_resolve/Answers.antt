@@ -1,9 +1,7 @@
 -- `package_target_resolve` calls itself with the depth one less. Each loop's invariant: what is left of the array or the object, from the
 -- context so far, gives what the whole gives.
 use mathlib.Core.Path.{refl, sym, ◌∙◌}
-use Prim.Native.Nat.{◌-◌}
 use native.Mathlib.Omega.{arith}
-use borrow.Author.Tests.{not-true, not-false}
 use Rattle.targets.specs.declared.Outcome.TheVariants.{Nothing, NotExportedMatch}
 use Rattle.targets.specs.Contexts.{context_of}
 use Rattle.targets.proofs.Targets.{outcome_is}

@@ -1,7 +1,7 @@
 -- The number of the first condition that the member's name is: the loop has passed by those before it.
 use native.Mathlib.Omega.{arith}
 use mathlib.Core.Path.{sym, ◌∙◌, ap}
-use Prim.Native.Nat.{◌-◌, ◌<◌, ◌≤◌}
+use Prim.Native.Nat.{◌<◌, ◌≤◌}
 use lib.ListN.{length}
 use Rattle.definition.specs.Text.{equal}
 use Rattle.definition.specs.Settings.{texts_of}

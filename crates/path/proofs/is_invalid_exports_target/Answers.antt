@@ -1,7 +1,6 @@
 use borrow.Author.Rules.{rules}
 use native.Mathlib.Omega.{arith}
 use mathlib.Core.Path.{sym, ◌∙◌}
-use Prim.Native.Nat.{◌-◌}
 use Rattle.definition.specs.Text.{slash}
 use Rattle.laws.specs.TextSteps.{first_inside}
 use Rattle.laws.specs.PathLaws.{invalid_parts}

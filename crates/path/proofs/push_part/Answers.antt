@@ -1,8 +1,6 @@
 -- Where ".." pops, it goes as `push_component`.
-use borrow.Author.Tests.{not-false}
 use mathlib.Core.Path.{sym, ◌∙◌, ap}
 use mathlib.Core.Bool.{true≢false}
-use mathlib.Core.Logic.{⊎_elim}
 use Rattle.definition.specs.Path.{pops}
 use Rattle.path.proofs.Parts.{part_same, part_stays}
 use Rattle.path.proofs.push_part.Goals as goal

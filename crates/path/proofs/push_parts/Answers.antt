@@ -1,7 +1,6 @@
 -- `push_parts`: at `at` of the text, the path so far with the parts from there on pushed is the answer.
 use borrow.Author.Rules.{rules}
 use native.Mathlib.Omega.{arith}
-use Prim.Native.Nat.{◌-◌}
 use Rattle.definition.specs.Text.{slash}
 use Rattle.laws.specs.TextSteps.{first_inside}
 use Rattle.path.specs.Meaning.{path_at}

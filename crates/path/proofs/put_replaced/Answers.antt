@@ -2,7 +2,6 @@
 use native.Mathlib.Omega.{arith}
 use borrow.Author.Rules.{rules}
 use mathlib.Core.Path.{refl}
-use Prim.Native.Nat.{◌-◌}
 use Rattle.definition.specs.Text.{star}
 use Rattle.laws.specs.TextSteps.{first_inside}
 use Rattle.path.specs.Meaning.{path_at}

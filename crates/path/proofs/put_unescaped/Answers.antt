@@ -1,7 +1,5 @@
 -- `path::put_unescaped` meets its contract, by the laws of `Widening`.
-use Prim.Native.Nat.{◌-◌}
 use mathlib.Core.Path.{sym, ◌∙◌}
-use borrow.Author.Tests.{not-true, not-false}
 use Rattle.path.proofs.Widening.{widening_begin, widening_end, widening_skip, widening_on}
 use Rattle.path.proofs.put_unescaped.Goals as goal
 use Rattle.path.proofs.put_unescaped.Goals.{else-not-skip, then-not-skip}

@@ -1,13 +1,11 @@
 -- The texts passed are in order, and what is left starts at `at`: what a text breaks, or the length, breaks the whole.
 use mathlib.Core.Path.{◌≡◌, sym, ◌∙◌, ap}
-use mathlib.Core.Bool.{true}
-use Prim.Native.Nat.{◌-◌}
 use native.Mathlib.Omega.{arith}
 use lib.Dec.{eqb}
 use lib.ListN.{length}
 use borrow.Author.Count.{below_more}
 use Rattle.definition.specs.Settings.{count_before, sum}
-use Rattle.laws.specs.SettingsLaws.{text_passes, refused_counts, refused_length, refused_text, texts_length}
+use Rattle.laws.specs.SettingsLaws.{refused_counts, refused_length, refused_text, texts_length}
 use Rattle.settings.proofs.Steps.{start_of, start_next, too_long, passes_here, all_read}
 use Rattle.settings.proofs.check.Goals as goal
 

@@ -1,4 +1,3 @@
-use Prim.Native.Nat.{◌-◌}
 use Rattle.specifier.proofs.Fragment.{scan_none, scan_begin, scan_end, scan_fragment, scan_escape, scan_other}
 use Rattle.specifier.proofs.scan.Goals as goal
 use Rattle.specifier.proofs.scan.Goals.{else-b-eq35, then-b-eq35+else-prev-ne0}

@@ -1,8 +1,4 @@
-use mathlib.Core.Path.{◌≡◌, refl, sym, ◌∙◌}
-use Prim.Native.Nat.{◌-◌}
-use lib.ListN.{length, drop}
-use borrow.Author.Rules.{rules}
-use Rattle.definition.specs.Text.{contains}
+use mathlib.Core.Path.{sym, ◌∙◌}
 use Rattle.laws.specs.TextSteps.{contains_end, contains_here, contains_not}
 use Rattle.text.proofs.contains.Goals as goal
 

@@ -1,9 +1,7 @@
-use mathlib.Core.Path.{◌≡◌, refl, sym, ◌∙◌}
+use mathlib.Core.Path.{◌≡◌}
 use Prim.Native.Nat.{◌-◌}
 use lib.ListN.{length, drop}
-use borrow.Author.Rules.{rules}
 use Rattle.definition.specs.Text.{contains}
-use Rattle.laws.specs.TextSteps.{contains_end, contains_here, contains_not}
 use Rattle.text.proofs.contains.Given as goal
 
 abbrev pub invariant-loop-i : goal.invariant-loop-i

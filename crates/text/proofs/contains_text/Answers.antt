@@ -1,8 +1,4 @@
-use mathlib.Core.Path.{◌≡◌, refl, sym, ◌∙◌}
-use Prim.Native.Nat.{◌-◌}
-use lib.ListN.{length, drop}
-use borrow.Author.Rules.{rules}
-use Rattle.definition.specs.Text.{contains_text}
+use mathlib.Core.Path.{sym, ◌∙◌}
 use Rattle.laws.specs.TextSteps.{contains_text_end, contains_text_here, contains_text_not, part_rest}
 use Rattle.text.proofs.contains_text.Goals as goal
 

@@ -1,9 +1,7 @@
-use mathlib.Core.Path.{◌≡◌, refl, sym, ◌∙◌}
+use mathlib.Core.Path.{◌≡◌}
 use Prim.Native.Nat.{◌-◌}
 use lib.ListN.{length, drop}
-use borrow.Author.Rules.{rules}
 use Rattle.definition.specs.Text.{contains_text}
-use Rattle.laws.specs.TextSteps.{contains_text_end, contains_text_here, contains_text_not, part_rest}
 use Rattle.text.proofs.contains_text.Given as goal
 
 abbrev pub invariant-loop-i : goal.invariant-loop-i

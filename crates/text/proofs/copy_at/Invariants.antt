@@ -1,11 +1,7 @@
-use mathlib.Core.Path.{◌≡◌, refl, sym, ◌∙◌}
+use mathlib.Core.Path.{◌≡◌}
 use Prim.Native.Nat.{◌-◌, ◌+◌, ◌≤◌}
-use native.Mathlib.Omega.{arith}
-use native.Mathlib.Nat.{add-zero}
-use lib.ListN.{length, drop, length-set}
-use borrow.Author.Rules.{rules}
+use lib.ListN.{length, drop}
 use Rattle.definition.specs.Text.{overwrite}
-use Rattle.laws.specs.TextSteps.{overwrite_step, overwrite_end}
 use Rattle.text.proofs.copy_at.Given as goal
 
 -- what is still to be written, written over what stands there, is the whole

@@ -1,10 +1,4 @@
-use mathlib.Core.Path.{◌≡◌}
-use mathlib.Core.Logic.{⊎_elim}
-use Prim.Native.Nat.{◌+◌, ◌-◌, ◌≤◌}
 use native.Mathlib.Omega.{arith}
-use lib.ListN.{length, drop}
-use borrow.Author.Rules.{rules}
-use Rattle.definition.specs.Text.{count}
 use Rattle.laws.specs.TextSteps.{count_end, count_here, count_not}
 use Rattle.text.proofs.count.Goals as goal
 use Rattle.text.proofs.count.Goals.{else-s-i, then-s-i}

@@ -1,5 +1,4 @@
 use mathlib.Core.Path.{◌∙◌}
-use borrow.Author.Rules.{rules}
 use borrow.Author.Tests.{le-leb, lt-leb}
 use Rattle.definition.specs.Text.{ends_with}
 use Rattle.laws.specs.TextSteps.{part_rest}

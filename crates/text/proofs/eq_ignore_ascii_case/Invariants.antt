@@ -1,10 +1,7 @@
-use mathlib.Core.Path.{◌≡◌, refl, sym, ◌∙◌}
+use mathlib.Core.Path.{◌≡◌}
 use Prim.Native.Nat.{◌-◌}
-use native.Mathlib.Omega.{arith}
 use lib.ListN.{length, drop}
-use borrow.Author.Rules.{rules}
 use Rattle.definition.specs.Text.{equal_ignoring_case}
-use Rattle.laws.specs.TextSteps.{ignoring_lengths, ignoring_end, ignoring_here, ignoring_not}
 use Rattle.text.proofs.eq_ignore_ascii_case.Given as goal
 
 abbrev pub invariant-loop-i : goal.invariant-loop-i

@@ -1,9 +1,6 @@
-use mathlib.Core.Path.{◌≡◌, refl, sym, ◌∙◌}
-use Prim.Native.Nat.{◌-◌}
+use mathlib.Core.Path.{refl, sym, ◌∙◌}
 use native.Mathlib.Omega.{arith}
-use lib.ListN.{length, drop}
 use borrow.Author.Rules.{rules}
-use Rattle.definition.specs.Text.{equal}
 use Rattle.laws.specs.TextSteps.{equal_lengths, equal_end, equal_here, unequal_here}
 use Rattle.text.proofs.equal.Goals as goal
 

@@ -1,10 +1,7 @@
-use mathlib.Core.Path.{◌≡◌, refl, sym, ◌∙◌}
+use mathlib.Core.Path.{◌≡◌}
 use Prim.Native.Nat.{◌-◌}
-use native.Mathlib.Omega.{arith}
 use lib.ListN.{length, drop}
-use borrow.Author.Rules.{rules}
 use Rattle.definition.specs.Text.{equal}
-use Rattle.laws.specs.TextSteps.{equal_lengths, equal_end, equal_here, unequal_here}
 use Rattle.text.proofs.equal.Given as goal
 
 abbrev pub invariant-loop-i : goal.invariant-loop-i

@@ -1,9 +1,6 @@
-use mathlib.Core.Path.{◌≡◌, ap}
-use Prim.Native.Nat.{◌+◌, ◌-◌}
+use mathlib.Core.Path.{ap}
 use native.Mathlib.Omega.{arith}
-use lib.ListN.{length, drop}
-use borrow.Author.Rules.{rules}
-use Rattle.definition.specs.Text.{before}
+use lib.ListN.{length}
 use Rattle.laws.specs.TextSteps.{before_end, before_here, before_not}
 use Rattle.text.proofs.find.Goals as goal
 

@@ -1,9 +1,5 @@
-use mathlib.Core.Path.{◌≡◌, refl, sym, ◌∙◌}
-use Prim.Native.Nat.{◌-◌}
+use mathlib.Core.Path.{sym, ◌∙◌}
 use native.Mathlib.Omega.{arith}
-use lib.ListN.{length, drop}
-use borrow.Author.Rules.{rules}
-use Rattle.definition.specs.Text.{smaller}
 use Rattle.laws.specs.TextSteps.{smaller_end, smaller_start, smaller_here, larger_here, smaller_next}
 use Rattle.text.proofs.less.Goals as goal
 

@@ -1,4 +1,3 @@
-use borrow.Author.Rules.{rules}
 use Rattle.definition.specs.Text.{lower_case}
 use Rattle.laws.specs.TextSteps.{within_yes, within_low, within_high}
 use Rattle.text.proofs.lower.Goals as goal

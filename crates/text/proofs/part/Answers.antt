@@ -3,7 +3,6 @@ use Prim.Native.Nat.{◌+◌, ◌-◌}
 use native.Mathlib.Omega.{arith}
 use lib.ListN.{drop_of_length-le}
 use lib.Seq.{take-nil}
-use borrow.Author.Rules.{rules}
 use Rattle.laws.specs.TextSteps.{take_clip}
 use Rattle.text.proofs.part.Goals as goal
 

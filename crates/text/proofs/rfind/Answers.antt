@@ -1,13 +1,11 @@
 -- The b that is met first from behind is the last; where none is met there is none.
 use mathlib.Core.Path.{◌≡◌, sym, ◌∙◌, ap}
-use mathlib.Core.Bool.{false}
-use Prim.Native.Nat.{suc, ◌+◌, ◌-◌, ◌≤◌}
+use Prim.Native.Nat.{suc, ◌+◌, ◌-◌}
 use native.Mathlib.Omega.{arith}
 use native.Mathlib.Nat.{le_refl}
-use lib.ListN.{length, drop}
+use lib.ListN.{length}
 use lib.Seq.{length-take-le}
 use borrow.Author.Rules.{rules}
-use Rattle.definition.specs.Text.{contains}
 use Rattle.laws.specs.TextSteps.{contains_end, contains_not, last_at, last_none}
 use Rattle.text.proofs.rfind.Goals as goal
 

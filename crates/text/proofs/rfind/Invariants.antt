@@ -1,13 +1,8 @@
-use mathlib.Core.Path.{◌≡◌, sym, ◌∙◌, ap}
+use mathlib.Core.Path.{◌≡◌}
 use mathlib.Core.Bool.{false}
-use Prim.Native.Nat.{suc, ◌+◌, ◌-◌, ◌≤◌}
-use native.Mathlib.Omega.{arith}
-use native.Mathlib.Nat.{le_refl}
+use Prim.Native.Nat.{◌≤◌}
 use lib.ListN.{length, drop}
-use lib.Seq.{length-take-le}
-use borrow.Author.Rules.{rules}
 use Rattle.definition.specs.Text.{contains}
-use Rattle.laws.specs.TextSteps.{contains_end, contains_not, last_at, last_none}
 use Rattle.text.proofs.rfind.Given as goal
 
 abbrev pub invariant-loop-i : goal.invariant-loop-i

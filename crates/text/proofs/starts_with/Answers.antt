@@ -1,6 +1,5 @@
 use mathlib.Core.Path.{sym, ◌∙◌}
 use native.Mathlib.Nat.{sub-zero}
-use borrow.Author.Rules.{rules}
 use Rattle.laws.specs.TextSteps.{starts_with_short, starts_with_equal}
 use Rattle.text.proofs.starts_with.Goals as goal
 

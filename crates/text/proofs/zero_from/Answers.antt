@@ -1,10 +1,7 @@
-use mathlib.Core.Path.{◌≡◌, refl, sym, ◌∙◌}
-use Prim.Native.Nat.{◌-◌}
+use mathlib.Core.Path.{refl, sym, ◌∙◌}
 use native.Mathlib.Omega.{arith}
 use native.Mathlib.Numerals.{add-one}
-use lib.ListN.{length, length-set}
-use borrow.Author.Rules.{rules}
-use Rattle.definition.specs.Text.{zero_from}
+use lib.ListN.{length-set}
 use Rattle.laws.specs.TextSteps.{zero_from_here, zero_from_past}
 use Rattle.text.proofs.zero_from.Goals as goal
 

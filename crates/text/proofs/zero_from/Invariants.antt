@@ -1,11 +1,7 @@
-use mathlib.Core.Path.{◌≡◌, refl, sym, ◌∙◌}
+use mathlib.Core.Path.{◌≡◌}
 use Prim.Native.Nat.{◌-◌}
-use native.Mathlib.Omega.{arith}
-use native.Mathlib.Numerals.{add-one}
-use lib.ListN.{length, length-set}
-use borrow.Author.Rules.{rules}
+use lib.ListN.{length}
 use Rattle.definition.specs.Text.{zero_from}
-use Rattle.laws.specs.TextSteps.{zero_from_here, zero_from_past}
 use Rattle.text.proofs.zero_from.Given as goal
 
 abbrev pub invariant-loop-i : goal.invariant-loop-i

@@ -1,10 +1,8 @@
 -- What is left to read, in the state that was reached, decides as the whole does.
-use mathlib.Core.Path.{◌≡◌, refl, sym, ◌∙◌, ap}
-use Prim.Native.Nat.{◌-◌}
+use mathlib.Core.Path.{refl, sym, ◌∙◌, ap}
 use native.Mathlib.Omega.{arith}
-use lib.ListN.{length, drop, drop_of_length-le}
-use borrow.Author.Rules.{rules}
-use Rattle.definition.specs.Text.{due, is_utf8_from, is_utf8}
+use lib.ListN.{drop_of_length-le}
+use Rattle.definition.specs.Text.{is_utf8}
 use Rattle.laws.specs.TextSteps.{utf8_ascii, utf8_step, utf8_end, utf8_bad}
 use Rattle.utf8.specs.Meaning.{meant}
 use Rattle.utf8.proofs.is_utf8.Goals as goal

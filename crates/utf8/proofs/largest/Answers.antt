@@ -1,7 +1,4 @@
-use mathlib.Core.Logic.{⊎_elim}
-use Prim.Native.Nat.{ℕ, ◌-◌, ◌≤◌, ◌<◌}
-use lib.ListN.{length, get_or}
-use borrow.Author.Rules.{rules}
+use Prim.Native.Nat.{◌≤◌}
 use borrow.Author.Count.{below_more}
 use native.Mathlib.Omega.{arith}
 use Rattle.utf8.proofs.largest.Goals as goal

@@ -1,5 +1,4 @@
 use mathlib.Core.Path.{sym, ◌∙◌, ap}
-use borrow.Author.Rules.{rules}
 use Rattle.definition.specs.Text.{is_utf8_from}
 use Rattle.laws.specs.TextSteps.{utf8_first, utf8_low, utf8_high, utf8_next}
 use Rattle.utf8.proofs.next.Goals as goal
