@@ -1,10 +1,10 @@
 -- What an ending and a list take of the lent buffers, and the refusals behind the lookup.
-use Rattle.std.specs.Prelude.{Bool, not, ◌&&◌, ℕ, ◌+◌, ◌*◌, ◌≤◌, ◌<◌, ltb, leb, Result, Ok, Err, if◌then◌else◌}
+use Rattle.std.specs.Prelude.{Bool, not, ◌&&◌, ℕ, ◌+◌, ◌*◌, ◌≤◌, ◌<◌, ltb, leb, Option, Some, None, Result, Ok, Err, if◌then◌else◌}
 use Rattle.refusal.specs.declared.Refusal.{Refusal}
 use Rattle.refusal.specs.declared.Refusal.TheVariants.{ResultTooShort, ListTooShort}
 use Rattle.consults.specs.Tape.{most}
 use Rattle.consults.specs.declared.Case.{Case}
-use Rattle.consults.specs.declared.Case.TheVariants.{Refused}
+use Rattle.consults.specs.declared.Case.TheVariants.{Found, NotFound, Empty, InvalidPackageTarget, PackagePathNotExported, InvalidPackageConfig, InvalidPackageConfigDirectory, Json, InvalidModuleSpecifier, PackageImportNotDefined, Recursion, Refused}
 use Rattle.consults.specs.declared.Ending.{Ending}
 use Rattle.consults.specs.declared.Mark.{Mark}
 
@@ -29,17 +29,27 @@ pub record Room (x : Ending) (k : Mark) (r n t : ℕ) : Type 0 where
   pub size : k.size < most
   pub list : k.size ≤ t
 
--- the refusals behind the lookup of an answer: 20, then 21
-abbrev pub room_by : Ending → Mark → ℕ → ℕ → ℕ → Result (Unit {0}) Refusal
-room_by x k r n t =
-    if not (texts_fit x r) then Err ResultTooShort else
-    if not (list_fits k n t) then Err ListTooShort else
-    Ok tt
+-- the refusals behind the lookup: its own, which a case holds, then 20, then 21
+abbrev pub refusal_in : Case → Option Refusal
+refusal_in (Refused r) = Some r
+refusal_in Found = None
+refusal_in NotFound = None
+refusal_in Empty = None
+refusal_in InvalidPackageTarget = None
+refusal_in PackagePathNotExported = None
+refusal_in InvalidPackageConfig = None
+refusal_in InvalidPackageConfigDirectory = None
+refusal_in Json = None
+refusal_in InvalidModuleSpecifier = None
+refusal_in PackageImportNotDefined = None
+refusal_in Recursion = None
 
--- the refusals: the lookup's own, then those
-abbrev pub checked_in : Case → Ending → Mark → ℕ → ℕ → ℕ → Result (Unit {0}) Refusal
-checked_in (Refused q) x k r n t = Err q
-checked_in c x k r n t = room_by x k r n t
+abbrev pub unless_refused : Option Refusal → Result (Unit {0}) Refusal → Result (Unit {0}) Refusal
+unless_refused (Some r) rest = Err r
+unless_refused None rest = rest
 
 abbrev pub checked_by : Ending → Mark → ℕ → ℕ → ℕ → Result (Unit {0}) Refusal
-checked_by x k r n t = checked_in x.case x k r n t
+checked_by x k r n t = unless_refused (refusal_in x.case) (
+    if not (texts_fit x r) then Err ResultTooShort else
+    if not (list_fits k n t) then Err ListTooShort else
+    Ok tt)
