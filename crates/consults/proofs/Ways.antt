@@ -8,7 +8,7 @@ use Rattle.consults.specs.declared.Ending.{Ending}
 use Rattle.consults.specs.Meaning.{step_by}
 use Rattle.consults.specs.Tape.{Tape, Done, done_bind, done_stop}
 
-module _ {M A B C : Type 0} {L : Listing M} {t : Ask End M B} {k : A → B} (r : ControlFlow Ending A) (f : B → Ask End M C) {s s₁ : Tape} (d : Done L t s s₁ (step_by k r)) where
+module _ {M A B C : Type 0} {L : Listing M} {t : Ask End M B} (k : A → B) (r : ControlFlow Ending A) (f : B → Ask End M C) {s s₁ : Tape} (d : Done L t s s₁ (step_by k r)) where
   -- the routine came back
   pub went_on : {a : A} {s₂ : Tape} {q : Step Ending C} → r ≡ Continue a → Done L (f (k a)) s₁ s₂ q → Done L (t >>= f) s s₂ q
   went_on e g = done_bind f (rw e at d) g
