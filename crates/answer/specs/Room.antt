@@ -44,12 +44,12 @@ refusal_in InvalidModuleSpecifier = None
 refusal_in PackageImportNotDefined = None
 refusal_in Recursion = None
 
-abbrev pub unless_refused : Option Refusal → Result (Unit {0}) Refusal → Result (Unit {0}) Refusal
-unless_refused (Some r) rest = Err r
-unless_refused None rest = rest
+abbrev pub unless_own : Option Refusal → Result (Unit {0}) Refusal → Result (Unit {0}) Refusal
+unless_own (Some r) rest = Err r
+unless_own None rest = rest
 
 abbrev pub checked_by : Ending → Mark → ℕ → ℕ → ℕ → Result (Unit {0}) Refusal
-checked_by x k r n t = unless_refused (refusal_in x.case) (
+checked_by x k r n t = unless_own (refusal_in x.case) (
     if not (texts_fit x r) then Err ResultTooShort else
     if not (list_fits k n t) then Err ListTooShort else
     Ok tt)
