@@ -11,6 +11,7 @@ ghost use Rattle.listing.specs.Meaning.{Placed};
 ghost use Rattle.listing_check.specs.Meaning.{Stepped, rule_of, verdict};
 
 use listing::{Parting, Place};
+use refusal::Refusal;
 
 // The i-th of n entries of a listing whose sizes fit; its path begins at `at`.
 fn locate(l: &[u8], n: usize, i: usize, at: usize) -> Place
@@ -173,30 +174,21 @@ fn ordered(l: &[u8]) -> bool
 }
 
 // What the check says: the first of 30, 31 and 32 that is broken anywhere.
-#[derive(Clone, Copy)]
-pub enum Checked {
-    Accepted,
-    Refused(u8),
-}
-
-pub fn check(l: &[u8]) -> Checked
+pub fn check(l: &[u8]) -> Result<(), Refusal>
     ensures { result ≡ verdict l.now }
 {
-    if !listing_rules::sizes(l) {
-        return Checked::Refused(30);
-    }
-    if !every(l, Rule::Sizes) {
-        return Checked::Refused(30);
+    if !listing_rules::sizes(l) || !every(l, Rule::Sizes) {
+        return Err(Refusal::Sizes);
     }
     if !ordered(l) {
         // a path that is too deep comes before any other fault
         if !every(l, Rule::Depth) {
-            return Checked::Refused(30);
+            return Err(Refusal::Sizes);
         }
-        return Checked::Refused(31);
+        return Err(Refusal::Order);
     }
     if !every(l, Rule::Manifests) {
-        return Checked::Refused(32);
+        return Err(Refusal::ManifestDirectory);
     }
-    Checked::Accepted
+    Ok(())
 }

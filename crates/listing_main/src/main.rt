@@ -5,7 +5,6 @@
 ghost use Rattle.std.specs.Prelude.{◌<◌};
 
 use listing::Found;
-use listing_check::Checked;
 use std::io;
 
 // The group's name, and how many of its cases are as expected; or after how many one was not.
@@ -124,10 +123,9 @@ fn number_of(l: &[u8], end: usize) -> u8 {
     if end > l.len() {
         return 1;
     }
-    let c = listing_check::check(&l[0..end]);
-    match c {
-        Checked::Accepted => 0,
-        Checked::Refused(n) => n,
+    match listing_check::check(&l[0..end]) {
+        Ok(()) => 0,
+        Err(refusal) => refusal.number(),
     }
 }
 
