@@ -3,11 +3,10 @@
 #![tactic(auto)]
 
 ghost use Rattle.std.specs.Prelude.{◌≤◌, length};
-ghost use Rattle.definition.specs.Settings.{settings_of};
-ghost use Rattle.definition.specs.Called.{seen_by};
 ghost use Rattle.definition.specs.Walk.{never, RESOLVE_ESM_MATCH};
 ghost use Rattle.targets.specs.Contexts.{part_text};
 ghost use Rattle.consults.specs.Tape.{Done};
+ghost use Rattle.consults.specs.Jobs.{settings_in, seen_in};
 ghost use Rattle.consults.specs.Meaning.{tape_of, step_of, place_of, place, Same};
 ghost use Rattle.directory.specs.Refusals.{room_in, DoneUnless};
 
@@ -24,7 +23,7 @@ fn resolve_esm_match(
     work: &mut [u8],
 ) -> ControlFlow<Ending>
     requires { 1024 ≤ length work.old }
-    ensures done { Done (seen_by (settings_of job.settings.now) job.listing.now) (never (RESOLVE_ESM_MATCH (settings_of job.settings.now) spec.now (place_of place))) (tape_of tape.old) (tape_of tape.new) (step_of result) }
+    ensures done { Done (seen_in job.entry) (never (RESOLVE_ESM_MATCH (settings_in job.entry) spec.now (place_of place.entry))) (tape_of tape.old) (tape_of tape.new) (step_of result) }
     ensures same { Same tape.old tape.new }
 {
     files::load_as_file(job, place, tape)?;
@@ -43,7 +42,7 @@ fn resolve_with_texts(
     work: &mut [u8],
 ) -> ControlFlow<Ending>
     requires { 1024 ≤ length work.old }
-    ensures done { Done (seen_by (settings_of job.settings.now) job.listing.now) (never (RESOLVE_ESM_MATCH (settings_of job.settings.now) spec.now (place path.now (part_text manifest.now context.query) (part_text manifest.now context.fragment)))) (tape_of tape.old) (tape_of tape.new) (step_of result) }
+    ensures done { Done (seen_in job.entry) (never (RESOLVE_ESM_MATCH (settings_in job.entry) spec.now (place path.now (part_text manifest.now context.query) (part_text manifest.now context.fragment)))) (tape_of tape.old) (tape_of tape.new) (step_of result) }
     ensures same { Same tape.old tape.new }
 {
     let mut query = [0u8; 1024];
@@ -69,7 +68,7 @@ pub fn resolve_in_context(
     tape: &mut Tape<'_>,
     work: &mut [u8],
 ) -> ControlFlow<Ending>
-    ensures done { DoneUnless (seen_by (settings_of job.settings.now) job.listing.now) (never (RESOLVE_ESM_MATCH (settings_of job.settings.now) spec.now (place path.now (part_text manifest.now context.query) (part_text manifest.now context.fragment)))) (tape_of tape.old) (room_in (length work.old)) (tape_of tape.new) (step_of result) }
+    ensures done { DoneUnless (seen_in job.entry) (never (RESOLVE_ESM_MATCH (settings_in job.entry) spec.now (place path.now (part_text manifest.now context.query) (part_text manifest.now context.fragment)))) (tape_of tape.old) (room_in (length work.old)) (tape_of tape.new) (step_of result) }
     ensures same { Same tape.old tape.new }
 {
     if work.len() < 1024 {

@@ -6,12 +6,12 @@ ghost use Rattle.std.specs.Prelude.{◌≤◌, length, drop};
 ghost use Rattle.definition.specs.Path.{manifest_of};
 ghost use Rattle.definition.specs.Json.{Json};
 ghost use Rattle.package_json.specs.Values.{Stands, Finds};
-ghost use Rattle.definition.specs.Settings.{texts_of, settings_of};
+ghost use Rattle.definition.specs.Settings.{texts_of};
 ghost use Rattle.definition.specs.Manifest.{first_field, manifest_view};
-ghost use Rattle.definition.specs.Called.{seen_by};
 ghost use Rattle.definition.specs.Walk.{by_exports, LOAD_PACKAGE_EXPORTS, in_scope, LOAD_PACKAGE_SELF};
 ghost use Rattle.package_json.specs.Cursors.{placed};
 ghost use Rattle.consults.specs.Tape.{Done};
+ghost use Rattle.consults.specs.Jobs.{settings_in, seen_in};
 ghost use Rattle.consults.specs.Meaning.{tape_of, step_of, Same};
 ghost use Rattle.directory.specs.Refusals.{DoneUnless};
 ghost use Rattle.package_exports.specs.Routines.{match_exports, room_for};
@@ -48,7 +48,7 @@ fn resolve_exports(
     work: &mut [u8],
 ) -> ControlFlow<Ending>
     requires { (1024 ≤ length work.old) × (length (manifest_of dir.now) ≤ 2048) }
-    ensures done { (j : Json) → Stands 15 (drop at manifest.now) j → Done (seen_by (settings_of job.settings.now) job.listing.now) (match_exports (settings_of job.settings.now) spec.now dir.now subpath.now j) (tape_of tape.old) (tape_of tape.new) (step_of result) }
+    ensures done { (j : Json) → Stands 15 (drop at manifest.now) j → Done (seen_in job.entry) (match_exports (settings_in job.entry) spec.now dir.now subpath.now j) (tape_of tape.old) (tape_of tape.new) (step_of result) }
     ensures same { Same tape.old tape.new }
 {
     let mut path = PathBuf::new();
@@ -86,7 +86,7 @@ fn by_exports(
     work: &mut [u8],
 ) -> ControlFlow<Ending>
     requires { (1024 ≤ length work.old) × (length sub.now ≤ 512) × (length (manifest_of package.dir.now) ≤ 2048) }
-    ensures done { (j : Json) → Stands 16 (drop package.root package.manifest.now) j → Done (seen_by (settings_of job.settings.now) job.listing.now) (by_exports (settings_of job.settings.now) spec.now package.dir.now sub.now (manifest_view (settings_of job.settings.now) j)) (tape_of tape.old) (tape_of tape.new) (step_of result) }
+    ensures done { (j : Json) → Stands 16 (drop package.entry.root package.entry.manifest.now) j → Done (seen_in job.entry) (by_exports (settings_in job.entry) spec.now package.entry.dir.now sub.now (manifest_view (settings_in job.entry) j)) (tape_of tape.old) (tape_of tape.new) (step_of result) }
     ensures same { Same tape.old tape.new }
 {
     let Some(at) = exports_field(package.manifest, package.root, job.settings) else {
@@ -108,7 +108,7 @@ pub fn load_package_exports(
     tape: &mut Tape<'_>,
     work: &mut [u8],
 ) -> ControlFlow<Ending>
-    ensures done { DoneUnless (seen_by (settings_of job.settings.now) job.listing.now) (LOAD_PACKAGE_EXPORTS (settings_of job.settings.now) spec.now sub.now dir.now) (tape_of tape.old) (room_for (length work.old) (length sub.now)) (tape_of tape.new) (step_of result) }
+    ensures done { DoneUnless (seen_in job.entry) (LOAD_PACKAGE_EXPORTS (settings_in job.entry) spec.now sub.now dir.now) (tape_of tape.old) (room_for (length work.old) (length sub.now)) (tape_of tape.new) (step_of result) }
     ensures same { Same tape.old tape.new }
 {
     if work.len() < 1024 {
@@ -132,7 +132,7 @@ fn in_scope(
     work: &mut [u8],
 ) -> ControlFlow<Ending>
     requires { (1024 ≤ length work.old) × (length spec.now ≤ 512) × (length (manifest_of package.dir.now) ≤ 2048) }
-    ensures done { (j : Json) → Stands 16 (drop package.root package.manifest.now) j → Done (seen_by (settings_of job.settings.now) job.listing.now) (in_scope (settings_of job.settings.now) spec.now (record { dir = package.dir.now; manifest = manifest_view (settings_of job.settings.now) j })) (tape_of tape.old) (tape_of tape.new) (step_of result) }
+    ensures done { (j : Json) → Stands 16 (drop package.entry.root package.entry.manifest.now) j → Done (seen_in job.entry) (in_scope (settings_in job.entry) spec.now (record { dir = package.entry.dir.now; manifest = manifest_view (settings_in job.entry) j })) (tape_of tape.old) (tape_of tape.new) (step_of result) }
     ensures same { Same tape.old tape.new }
 {
     let Some(at) = directory::text_field(package.manifest, package.root, b"name", work) else {
@@ -154,7 +154,7 @@ pub fn load_package_self(
     tape: &mut Tape<'_>,
     work: &mut [u8],
 ) -> ControlFlow<Ending>
-    ensures done { DoneUnless (seen_by (settings_of job.settings.now) job.listing.now) (LOAD_PACKAGE_SELF (settings_of job.settings.now) start.now spec.now) (tape_of tape.old) (room_for (length work.old) (length spec.now)) (tape_of tape.new) (step_of result) }
+    ensures done { DoneUnless (seen_in job.entry) (LOAD_PACKAGE_SELF (settings_in job.entry) start.now spec.now) (tape_of tape.old) (room_for (length work.old) (length spec.now)) (tape_of tape.new) (step_of result) }
     ensures same { Same tape.old tape.new }
 {
     if work.len() < 1024 {

@@ -4,11 +4,10 @@
 
 ghost use Rattle.std.specs.Prelude.{◌≡◌, ◌||◌, ◌≤◌, length};
 ghost use Rattle.definition.specs.Text.{text, equal, ends_with};
-ghost use Rattle.definition.specs.Settings.{settings_of};
-ghost use Rattle.definition.specs.Called.{seen_by};
 ghost use Rattle.definition.specs.Walk.{never};
 ghost use Rattle.definition.specs.Imports.{require_relative};
 ghost use Rattle.consults.specs.Tape.{Done};
+ghost use Rattle.consults.specs.Jobs.{settings_in, seen_in};
 ghost use Rattle.consults.specs.Meaning.{tape_of, step_of, Same};
 ghost use Rattle.directory.specs.Refusals.{room_in, DoneUnless};
 ghost use Rattle.relative.specs.Routines.{unless_folder, directory_or_none};
@@ -31,7 +30,7 @@ fn load_unless_folder(
     path: &[u8],
     tape: &mut Tape<'_>,
 ) -> ControlFlow<Ending>
-    ensures done { Done (seen_by (settings_of job.settings.now) job.listing.now) (unless_folder (settings_of job.settings.now) x.now path.now) (tape_of tape.old) (tape_of tape.new) (step_of result) }
+    ensures done { Done (seen_in job.entry) (unless_folder (settings_in job.entry) x.now path.now) (tape_of tape.old) (tape_of tape.new) (step_of result) }
     ensures same { Same tape.old tape.new }
 {
     if is_folder(x) {
@@ -49,7 +48,7 @@ fn load_directory_or_none(
     work: &mut [u8],
 ) -> ControlFlow<Ending>
     requires { 1024 ≤ length work.old }
-    ensures done { Done (seen_by (settings_of job.settings.now) job.listing.now) (never (directory_or_none (settings_of job.settings.now) x.now path.now)) (tape_of tape.old) (tape_of tape.new) (step_of result) }
+    ensures done { Done (seen_in job.entry) (never (directory_or_none (settings_in job.entry) x.now path.now)) (tape_of tape.old) (tape_of tape.new) (step_of result) }
     ensures same { Same tape.old tape.new }
 {
     directory::load_if_directory(job, Place::bare(path), tape, work)?;
@@ -65,7 +64,7 @@ pub fn require_relative(
     tape: &mut Tape<'_>,
     work: &mut [u8],
 ) -> ControlFlow<Ending>
-    ensures done { DoneUnless (seen_by (settings_of job.settings.now) job.listing.now) (never (require_relative (settings_of job.settings.now) dir.now x.now)) (tape_of tape.old) (room_in (length work.old)) (tape_of tape.new) (step_of result) }
+    ensures done { DoneUnless (seen_in job.entry) (never (require_relative (settings_in job.entry) dir.now x.now)) (tape_of tape.old) (room_in (length work.old)) (tape_of tape.new) (step_of result) }
     ensures same { Same tape.old tape.new }
 {
     if work.len() < 1024 {
