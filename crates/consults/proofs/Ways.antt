@@ -1,12 +1,20 @@
--- A routine that came back as a ControlFlow, and what follows it: what a `?` tells. Assumes nothing.
+-- A routine and what follows it: one that came back as a ControlFlow, and a path that was built. Assumes nothing.
 use mathlib.Core.Path.{◌≡◌, refl, ap, fun_ext}
 use Rattle.std.specs.declared.ops.ControlFlow.{ControlFlow}
 use Rattle.std.specs.declared.ops.ControlFlow.TheVariants.{Continue, Break}
 use Rattle.definition.specs.Ask.{Listing, Step, stop, Ask, ret, end, ask, read, ◌>>=◌}
-use Rattle.definition.specs.Manifest.{End}
+use mathlib.Core.List.{[]}
+use Rattle.definition.specs.Text.{Text}
+use Rattle.definition.specs.Path.{Built, built, too_long}
+use Rattle.definition.specs.Manifest.{End, path_too_long}
+use Rattle.definition.specs.Walk.{Look, made}
+use Rattle.refusal.specs.declared.Refusal.TheVariants.{PathTooLong}
+use Rattle.consults.specs.declared.Case.TheVariants.{Refused}
+use Rattle.consults.specs.Ends.{refusal_of}
+use Rattle.consults.proofs.Steps.{done_refuse}
 use Rattle.consults.specs.declared.Ending.{Ending}
-use Rattle.consults.specs.Meaning.{step_by}
-use Rattle.consults.specs.Tape.{Tape, Done, done_bind, done_stop}
+use Rattle.consults.specs.Meaning.{step_by, ended_as, Sees}
+use Rattle.consults.specs.Tape.{Tape, Done, done_ret, done_bind, done_stop}
 
 module _ {M A B C : Type 0} {L : Listing M} {t : Ask End M B} (k : A → B) (r : ControlFlow Ending A) (f : B → Ask End M C) {s s₁ : Tape} (d : Done L t s s₁ (step_by k r)) where
   -- the routine came back
@@ -24,3 +32,13 @@ bind_bind (ret a) f g = refl
 bind_bind (end e) f g = refl
 bind_bind (ask p k) f g = ap (ask p) (fun_ext (λ s. bind_bind (k s) f g))
 bind_bind (read p k) f g = ap (read p) (fun_ext (λ o. bind_bind (k o) f g))
+
+-- a path that was built, and what follows
+module _ {A : Type 0} {L : Listing Sees} {b : Built} (f : Text → Look A) where
+  pub made_long : {s : Tape} → b ≡ too_long → Done L (made b >>= f) s s (stop (ended_as (Refused PathTooLong) [] [] []))
+  unfolding made refusal_of
+  made_long e = rw e (done_stop _ (done_refuse path_too_long _))
+
+  pub made_fits : {p : Text} {s s' : Tape} {r : Step Ending A} → b ≡ built p → Done L (f p) s s' r → Done L (made b >>= f) s s' r
+  unfolding made
+  made_fits e d = rw e (done_bind _ done_ret d)

@@ -1,6 +1,6 @@
 -- An over-long path has no text; else its text is tried.
 use Rattle.questions.specs.Meaning.{try_path}
-use Rattle.questions.proofs.Questions.{made_long, made_fits}
+use Rattle.consults.proofs.Ways.{made_long, made_fits}
 use Rattle.questions.proofs.try_path.Goals as goal
 
 pub returns-in_default-clause-done : goal.returns-in_default-clause-done
