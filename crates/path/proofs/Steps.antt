@@ -9,7 +9,9 @@ use lib.ListN.{length, drop, take, get_or, set, length-append, length-take}
 use lib.Seq.{length-take-le, take-take, get_or-take, take-suc-set}
 use lib.Dec.{leb, ltb}
 use borrow.Author.Tests.{le-leb, lt-leb, le-ltb, lt-ltb, leb-true, leb-false}
-use Rattle.std.specs.Prelude.{if◌then◌else◌}
+use Rattle.std.specs.Prelude.{if◌then◌else◌, Option, None, Some, MatchOption}
+use Rattle.std.proofs.Common.{inl, inr, Bor}
+use Rattle.std.specs.Slice.{IsGetRangeResult}
 use Rattle.definition.specs.Text.{text, equal, ends_with, slash, contains, before_last, overwrite}
 use Rattle.definition.specs.Path.{Built, built, too_long, and_path, limited, push, parent, name_of, add_extension, add_name_and_extension}
 use Rattle.laws.specs.TextLaws.{overwrite_upto}
@@ -149,3 +151,11 @@ module _ (p : List ℕ) (k : ℕ) (e : k ≡ length (before_last slash p)) where
 
     pub name_rest : name_of p ≡ take (length p - (k + 1)) (drop (k + 1) p)
     name_rest = let l = last_found slash p k e h in name_behind p k h l.there l.front
+
+-- `as_slice`: the part up to n is there exactly where the path is not over-long
+pub text_or_long : (b : List ℕ) (n : ℕ) (r : Option (Bor (List ℕ))) → length b ≡ 2048 → IsGetRangeResult b 0 n r → MatchOption r (path_at b n ≡ too_long) (λ t. path_at b n ≡ built t.now)
+text_or_long b n None w (inl h, g) = absurd (let z : ⊥ = omega arith in z)
+text_or_long b n None w (inr h, g) = at_long b n (omega arith)
+text_or_long b n (Some t) w (p, g) =
+    let d : n - 0 ≡ n = omega arith in
+    at_fits b n (omega arith) ∙ ap built (sym (rw d at p.2))

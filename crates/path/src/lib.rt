@@ -2,10 +2,10 @@
 
 #![tactic(auto)]
 
-ghost use Rattle.std.specs.Prelude.{◌≡◌, ◌&&◌, ◌||◌, true, ◌+◌, ◌≤◌, ◌<◌, eqb, length, take, drop, get_or, if◌then◌else◌};
+ghost use Rattle.std.specs.Prelude.{◌≡◌, ◌&&◌, ◌||◌, true, ◌+◌, ◌≤◌, ◌<◌, eqb, length, take, drop, get_or, MatchOption, if◌then◌else◌};
 ghost use mathlib.Core.List.{[], ◌++◌, flat_map};
 ghost use Rattle.definition.specs.Text.{text, star, equal, starts_with, replace, utf8};
-ghost use Rattle.definition.specs.Path.{built, and_path, limited, push, parent, add_extension, add_name_and_extension, manifest_of, name_of, component, push_all, normalize_with, pops, push_relative, normalize_relative, any_invalid, is_invalid_exports_target};
+ghost use Rattle.definition.specs.Path.{built, too_long, and_path, limited, push, parent, add_extension, add_name_and_extension, manifest_of, name_of, component, push_all, normalize_with, pops, push_relative, normalize_relative, any_invalid, is_invalid_exports_target};
 ghost use Rattle.definition.specs.Specifier.{unescape};
 ghost use Rattle.laws.specs.PathLaws.{parts, root_of};
 ghost use Rattle.path.specs.Meaning.{path_at, path_of, is_too_long, Roomy};
@@ -329,6 +329,13 @@ impl PathBuf {
         let n = self.len;
         self.len = up(&self.bytes, n);
         self
+    }
+
+    // The text of a path; an over-long one has none.
+    pub fn as_slice(&self) -> Option<&[u8]>
+        ensures { MatchOption result (path_of self.now ≡ too_long) (λ t. path_of self.now ≡ built t.now) }
+    {
+        self.bytes.get(..self.len)
     }
 
     pub fn over_long(self) -> bool
