@@ -1,5 +1,5 @@
 -- What the answers of the public functions mean in terms of the definition.
-use Rattle.std.specs.Prelude.{◌≡◌, ℕ, ◌<◌, ◌≤◌, drop}
+use Rattle.std.specs.Prelude.{◌≡◌, ℕ, ◌<◌, ◌≤◌, drop, Option as Answer, Some, None}
 use Rattle.std.proofs.Math.Option.{Option, none, some}
 use Rattle.definition.specs.Text.{Text}
 use Rattle.definition.specs.Json.{fault_number}
@@ -8,10 +8,8 @@ use Rattle.definition.specs.JsonAt.{rooted, faulty, a_scalar, a_string, an_array
 use Rattle.json_text.specs.Scanned.{fault_of}
 use Rattle.package_json.specs.declared.Checked.{Checked}
 use Rattle.package_json.specs.declared.Checked.TheVariants.{Root, Fault}
-use Rattle.package_json.specs.declared.Cursor.{Cursor}
-use Rattle.package_json.specs.declared.Cursor.TheVariants.{At, Nothing}
 use Rattle.package_json.specs.declared.Kind as kind
-use Rattle.package_json.specs.declared.Kind.TheVariants.{Scalar, String, Array, Object, Nothing as NoKind}
+use Rattle.package_json.specs.declared.Kind.TheVariants.{Scalar, String, Array, Object}
 use Rattle.package_json.specs.declared.Hop.{Hop}
 use Rattle.package_json.specs.declared.Hop.TheVariants.{On, Out, Cut}
 
@@ -23,22 +21,22 @@ abbrev pub number_of : json.Checked → ℕ
 number_of (rooted s) = 0
 number_of (faulty f) = fault_number f
 
-abbrev pub kind_of : kind.Kind → Option json.Kind
-kind_of Scalar = some a_scalar
-kind_of String = some a_string
-kind_of Array = some an_array
-kind_of Object = some an_object
-kind_of NoKind = none
+abbrev pub kind_of : Answer kind.Kind → Option json.Kind
+kind_of (Some Scalar) = some a_scalar
+kind_of (Some String) = some a_string
+kind_of (Some Array) = some an_array
+kind_of (Some Object) = some an_object
+kind_of None = none
 
 -- a place of the manifest m stands for the bytes from there on
-abbrev pub placed : Text → Cursor → Option Text
-placed m (At i) = some (drop i m)
-placed m Nothing = none
+abbrev pub placed : Text → Answer ℕ → Option Text
+placed m (Some i) = some (drop i m)
+placed m None = none
 
 -- a place behind another
-abbrev pub Ahead : ℕ → Cursor → Type 0
-Ahead i (At j) = i < j
-Ahead i Nothing = Unit {0}
+abbrev pub Ahead : ℕ → Answer ℕ → Type 0
+Ahead i (Some j) = i < j
+Ahead i None = Unit {0}
 
 -- a step inside brackets, n of them open at i
 abbrev pub hopped : Text → Hop → Option Text

@@ -2,10 +2,10 @@ use mathlib.Core.Path.{sym, ◌∙◌}
 use Rattle.definition.specs.JsonAt.{next_element}
 use Rattle.package_json.proofs.next_element.Goals as goal
 
-pub returns-in-Nothing : goal.returns-in-Nothing
+pub returns-in-None : goal.returns-in-None
 unfolding next_element
-returns-in-Nothing c = rw (sym c.value_end-end.ensures) (rw c.in-Nothing.is)
+returns-in-None c = rw (sym c.value_end-end.ensures) (rw c.in-None.is)
 
-pub returns-in-At : goal.returns-in-At
+pub returns-in-Some : goal.returns-in-Some
 unfolding next_element
-returns-in-At c = c.behind.ensures ∙ rw (sym c.value_end-end.ensures) (rw c.in-At.is (rw c.skip_space.ensures))
+returns-in-Some c = c.behind.ensures ∙ rw (sym c.value_end-end.ensures) (rw c.in-Some.is (rw c.skip_space.ensures))

@@ -2,10 +2,10 @@ use mathlib.Core.Path.{sym, ◌∙◌}
 use Rattle.definition.specs.JsonAt.{next_member}
 use Rattle.package_json.proofs.next_member.Goals as goal
 
-pub returns-in-Nothing : goal.returns-in-Nothing
+pub returns-in-None : goal.returns-in-None
 unfolding next_member
-returns-in-Nothing c = rw (sym c.member_value-value.ensures) (rw c.in-Nothing.is)
+returns-in-None c = rw (sym c.member_value-value.ensures) (rw c.in-None.is)
 
-pub returns-in-At : goal.returns-in-At
+pub returns-in-Some : goal.returns-in-Some
 unfolding next_member
-returns-in-At c = c.next_element.ensures ∙ rw (sym c.member_value-value.ensures) (rw c.in-At.is)
+returns-in-Some c = c.next_element.ensures ∙ rw (sym c.member_value-value.ensures) (rw c.in-Some.is)
