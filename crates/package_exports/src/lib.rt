@@ -138,7 +138,7 @@ fn in_scope(
     let Some(at) = directory::text_field(package.manifest, package.root, b"name", work) else {
         return ControlFlow::Continue(());
     };
-    let name = package_json::text_at(package.manifest, work, at);
+    let name = package_json::text_at(package.manifest, work, Some(at));
     let Some(n) = package_name::strip_package_name(spec, name) else {
         return ControlFlow::Continue(());
     };
