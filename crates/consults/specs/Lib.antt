@@ -3,4 +3,3 @@ pub mod Tape
 pub mod Caught
 pub mod Loop
 pub mod Meaning
-pub mod Jobs

@@ -1,4 +1,4 @@
--- LOAD_AS_FILE and LOAD_INDEX: the code's paths and loops as the definition's. Assumes nothing.
+-- LOAD_AS_FILE and LOAD_INDEX: the code's paths as the definition's. Assumes nothing.
 use mathlib.Core.Path.{◌≡◌, refl, sym, ◌∙◌}
 use mathlib.Core.Bool.{Bool, true, false}
 use mathlib.Core.List.{◌++◌}
@@ -11,11 +11,11 @@ use Rattle.std.specs.Prelude.{if◌then◌else◌}
 use Rattle.definition.specs.Text.{Text, text}
 use Rattle.definition.specs.Path.{Built, built, too_long, and_path, limited, add_extension, add_name_and_extension}
 use Rattle.definition.specs.Settings.{Settings}
-use Rattle.definition.specs.Ask.{Listing, Step, go, stop, ◌>>◌}
+use Rattle.definition.specs.Ask.{Listing, Step}
 use Rattle.definition.specs.Manifest.{Place}
-use Rattle.definition.specs.Walk.{for_each, at, try_file, try_extension, LOAD_AS_FILE, try_index}
+use Rattle.definition.specs.Walk.{try_extension, try_index}
 use Rattle.consults.specs.declared.Ending.{Ending}
-use Rattle.consults.specs.Tape.{Tape, Done, done_bind, done_stop}
+use Rattle.consults.specs.Tape.{Tape, Done}
 use Rattle.consults.specs.Meaning.{Sees}
 use Rattle.questions.specs.Meaning.{try_path}
 
@@ -39,19 +39,11 @@ built_limited p f = by (leb (length p) 2048)
 module _ (G : Settings) {L : Listing Sees} (w : Place) (b : Built) {s s' : Tape} {r : Step Ending (Unit {0})} (d : Done L (try_path G w b) s s' r) where
   -- an extension behind the path, and a main file in the directory
   pub extension_tried : (x : Text) → b ≡ and_path (limited w.path) (λ u. add_extension u x) → Done L (try_extension G w x) s s' r
-  unfolding try_extension try_path add_extension at
+  unfolding try_extension try_path add_extension
   extension_tried x e = rw (e ∙ built_limited w.path _ ∙ limited_longer w.path (w.path ++ x) (omega (arith, length-append w.path x))) at d
 
   pub index_tried : (n x : Text) → b ≡ and_path (limited w.path) (λ u. add_name_and_extension u n x) → Done L (try_index G w n x) s s' r
-  unfolding try_index try_path add_name_and_extension at
-  index_tried n x e = rw (e ∙ built_limited w.path _ ∙ limited_longer w.path _ (omega (arith, length-append w.path (text "/"), length-append (w.path ++ text "/") n, length-append (w.path ++ text "/" ++ n) x))) at d
-
--- LOAD_AS_FILE: the file itself ended the lookup, or the extensions follow
-module _ (G : Settings) {L : Listing Sees} (w : Place) {s s₁ : Tape} {q : Step Ending (Unit {0})} (d : Done L (try_file G w) s s₁ q) where
-  pub file_ended : (x : Ending) → q ≡ stop x → Done L (LOAD_AS_FILE G w) s s₁ q
-  unfolding LOAD_AS_FILE ◌>>◌
-  file_ended x e = rw e (done_stop _ (rw e at d))
-
-  pub file_then : {s₂ : Tape} {r : Step Ending (Unit {0})} → q ≡ go tt → Done L (for_each G.extensions (try_extension G w)) s₁ s₂ r → Done L (LOAD_AS_FILE G w) s s₂ r
-  unfolding LOAD_AS_FILE ◌>>◌
-  file_then e rest = done_bind _ (rw e at d) rest
+  unfolding try_index try_path add_name_and_extension
+  index_tried n x e =
+      let p = w.path in
+      rw (e ∙ built_limited p _ ∙ limited_longer p _ (omega (arith, length-append p (text "/"), length-append (p ++ text "/") n, length-append (p ++ text "/" ++ n) x))) at d

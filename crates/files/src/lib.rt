@@ -2,12 +2,12 @@
 
 #![tactic(auto)]
 
+ghost use Rattle.std.specs.Prelude.{◌≡◌};
 ghost use Rattle.definition.specs.Settings.{Settings};
 ghost use Rattle.definition.specs.Called.{seen_by};
 ghost use Rattle.definition.specs.Walk.{try_extension, LOAD_AS_FILE, try_index, LOAD_INDEX};
 ghost use Rattle.consults.specs.Tape.{Done};
-ghost use Rattle.consults.specs.Jobs.{settings_in, seen_in};
-ghost use Rattle.consults.specs.Meaning.{tape_of, step_of, place_of, Same};
+ghost use Rattle.consults.specs.Meaning.{tape_of, step_of, place_of, seen_in, settings_in, Same};
 ghost use Rattle.files.specs.Meaning.{load_main_file};
 
 use consults::{Ending, Job, Place, Tape};
@@ -35,7 +35,7 @@ pub fn load_as_file(job: Job<'_>, place: Place<'_>, tape: &mut Tape<'_>) -> Cont
     ControlFlow::Continue(())
 }
 
-// LOAD_INDEX, one main file of the settings with an extension.
+// LOAD_INDEX, one main file of the settings with one extension.
 fn try_index(
     l: &[u8],
     place: Place<'_>,
