@@ -6,8 +6,7 @@ ghost use Rattle.std.specs.Prelude.{◌≤◌, length};
 ghost use Rattle.definition.specs.Walk.{never, RESOLVE_ESM_MATCH};
 ghost use Rattle.targets.specs.Contexts.{part_text};
 ghost use Rattle.consults.specs.Tape.{Done};
-ghost use Rattle.consults.specs.Jobs.{settings_in, seen_in};
-ghost use Rattle.consults.specs.Meaning.{tape_of, step_of, place_of, place, Same};
+ghost use Rattle.consults.specs.Meaning.{settings_in, seen_in, tape_of, step_of, place_of, place, Same};
 ghost use Rattle.directory.specs.Refusals.{room_in, DoneUnless};
 
 use consults::{Ending, Job, Place, Tape};

@@ -11,8 +11,7 @@ ghost use Rattle.definition.specs.Manifest.{first_field, manifest_view};
 ghost use Rattle.definition.specs.Walk.{by_exports, LOAD_PACKAGE_EXPORTS, in_scope, LOAD_PACKAGE_SELF};
 ghost use Rattle.package_json.specs.Cursors.{placed};
 ghost use Rattle.consults.specs.Tape.{Done};
-ghost use Rattle.consults.specs.Jobs.{settings_in, seen_in};
-ghost use Rattle.consults.specs.Meaning.{tape_of, step_of, Same};
+ghost use Rattle.consults.specs.Meaning.{settings_in, seen_in, tape_of, step_of, Same};
 ghost use Rattle.directory.specs.Refusals.{DoneUnless};
 ghost use Rattle.package_exports.specs.Routines.{match_exports, room_for};
 

@@ -7,8 +7,7 @@ ghost use Rattle.definition.specs.Text.{text, equal, ends_with};
 ghost use Rattle.definition.specs.Walk.{never};
 ghost use Rattle.definition.specs.Imports.{require_relative};
 ghost use Rattle.consults.specs.Tape.{Done};
-ghost use Rattle.consults.specs.Jobs.{settings_in, seen_in};
-ghost use Rattle.consults.specs.Meaning.{tape_of, step_of, Same};
+ghost use Rattle.consults.specs.Meaning.{settings_in, seen_in, tape_of, step_of, Same};
 ghost use Rattle.directory.specs.Refusals.{room_in, DoneUnless};
 ghost use Rattle.relative.specs.Routines.{unless_folder, directory_or_none};
 

@@ -6,8 +6,7 @@ use Rattle.package_json.specs.Values.{Stands}
 use Rattle.definition.specs.Settings.{texts_of}
 use Rattle.settings.specs.Meaning.{texts_left}
 use Rattle.consults.specs.Loop.{Left}
-use Rattle.consults.specs.Jobs.{settings_in, seen_in}
-use Rattle.consults.specs.Meaning.{tape_of, place_of, Same}
+use Rattle.consults.specs.Meaning.{settings_in, seen_in, tape_of, place_of, Same}
 use Rattle.directory.specs.Routines.{main_field}
 use Rattle.directory.proofs.load_main_fields.Given as goal
 
