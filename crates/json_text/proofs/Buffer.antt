@@ -5,19 +5,22 @@ use Prim.Native.Nat.{ℕ, ◌+◌, ◌-◌, ◌/◌, ◌<◌, ◌≤◌}
 use native.Mathlib.Omega.{arith}
 use native.Mathlib.Numerals.{add-one}
 use lib.ListN.{length, drop, take, set, get_or, length-append, length-set}
+use Rattle.std.specs.Prelude.{Option, Some, None, Result, Ok, Err}
+use Rattle.std.specs.Result.{result_ok}
 use lib.Seq.{take-suc-set, drop-set-lt, drop-drop}
 use borrow.Author.Tests.{lt-ltb, le-ltb, le-leb, lt-leb}
 use Rattle.definition.specs.Text.{utf8, trail}
+use Rattle.definition.specs.Json as json
 use Rattle.definition.specs.Json.{Read, got, fault, malformed, beyond, and_then, between, string, go_on, step}
 use Rattle.json_string.specs.declared.Place.{Place}
 use Rattle.json_string.specs.declared.Out.{Out}
 use Rattle.json_string.specs.declared.Step.{Step}
-use Rattle.json_string.specs.declared.Step.TheVariants.{Bad, Close, Gives}
+use Rattle.json_string.specs.declared.Step.TheVariants.{Close, Gives}
 use Rattle.json_string.specs.Automaton.{place_of, out_of, step_of, Good, Fair, Steps, advanced}
 use Rattle.json_string.proofs.Steps.{advanced_good}
 use Rattle.json_text.specs.Scanned.{fault_of}
-use Rattle.json_text.specs.Decoded.{Stands, decoded, Decodes}
-use Rattle.json_text.specs.declared.Text.{Text}
+use Rattle.json_text.specs.Decoded.{Stands, Decodes}
+use Rattle.json_text.specs.declared.Decoded.{Decoded}
 use Rattle.json_text.specs.declared.Fault as code
 use Rattle.json_string.proofs.Rules.{here, past}
 
@@ -83,39 +86,40 @@ module _ {m : List ℕ} {at : ℕ} {w₀ w : List ℕ} {p : Place} {i n : ℕ} (
   unfolding string
   at_end_lem l = g.rest ∙ rw (past m i l)
 
-  module _ (l : i < length m) {s : Step} (a : Steps (advanced p (get_or m i 0)) s) where
+  module _ (l : i < length m) {s : Option Step} (a : Steps (advanced p (get_or m i 0)) s) where
     e : Steps (step (place_of p) (get_or m i 0)) s
     e = advanced_good p (get_or m i 0) g.good a
 
-    turn : (q : Step) → s ≡ q → string 1024 between (drop at m)
-        ≡ and_then (go_on (step_of q) (1024 - n) (λ r q. string r q (drop (i + 1) m)) (drop (i + 1) m)) (λ t r. got (take n w ++ t) r)
+    turn : string 1024 between (drop at m)
+        ≡ and_then (go_on (step_of s) (1024 - n) (λ r q. string r q (drop (i + 1) m)) (drop (i + 1) m)) (λ t r. got (take n w ++ t) r)
     unfolding string
-    turn q h = g.rest ∙ rw (here m i l) (rw (sym e.is ∙ ap step_of h))
+    turn = g.rest ∙ rw (here m i l) (rw (sym e.is))
 
-    pub on_bad : s ≡ Bad → string 1024 between (drop at m) ≡ fault malformed
+  module _ (l : i < length m) where
+    pub on_bad : Steps (advanced p (get_or m i 0)) None → string 1024 between (drop at m) ≡ fault malformed
     unfolding go_on
-    on_bad h = turn Bad h
+    on_bad a = turn l a
 
-    pub on_close : s ≡ Close → string 1024 between (drop at m) ≡ got (take n w) (drop (i + 1) m)
+    pub on_close : Steps (advanced p (get_or m i 0)) (Some Close) → string 1024 between (drop at m) ≡ got (take n w) (drop (i + 1) m)
     unfolding go_on
-    on_close h = turn Close h ∙ rw (append-nil (take n w))
+    on_close a = turn l a ∙ rw (append-nil (take n w))
 
-    module _ {o : Out} {q : Place} (h : s ≡ Gives o q) where
+    module _ {o : Option Out} {q : Place} (a : Steps (advanced p (get_or m i 0)) (Some (Gives o q))) where
       pub fair : Fair o
-      fair = (rw h at e.good).0
+      fair = (e l a).good.0
 
       pub on_over : 1024 < n + length (out_of o) → string 1024 between (drop at m) ≡ fault beyond
       unfolding go_on
-      on_over k = turn (Gives o q) h ∙ rw (lt-leb (length (out_of o)) (1024 - n) (let z = g.room in omega arith))
+      on_over k = turn l a ∙ rw (lt-leb (length (out_of o)) (1024 - n) (let z = g.room in omega arith))
 
       pub on_gives : {w' : List ℕ} {k : ℕ} → Stands w w' n (out_of o) k → Going m at w₀ w' q (i + 1) k
       unfolding go_on
       on_gives {w'} {k} s = record {
         room = s.room;
-        good = (rw h at e.good).1;
+        good = (e l a).good.1;
         kept = s.kept ∙ rw s.count (sym (drop-drop (length (out_of o)) n w) ∙ ap (drop (length (out_of o))) g.kept ∙ drop-drop (length (out_of o)) n w₀);
         rest =
-            turn (Gives o q) h
+            turn l a
             ∙ rw (le-leb (length (out_of o)) (1024 - n) (let z = s.count in let y = s.room in omega arith))
             (rw (let z = s.count in let y = s.room in left_over) (go (string (1024 - k) (place_of q) (drop (i + 1) m))));
       }
@@ -127,16 +131,20 @@ module _ {m : List ℕ} {at : ℕ} {w₀ w : List ℕ} {p : Place} {i n : ℕ} (
           go (got t r) = rw (s.bytes, append_assoc)
           go (fault f) = refl
 
--- what a string's reader said, by its answer
-module _ {m w₀ w : List ℕ} {x : Read (List ℕ)} {r : Text} (d : Decodes m w₀ w x r) where
-  pub decodes_end : {e n : ℕ} → r ≡ Text.End e n → x ≡ got (take n w) (drop e m)
-  decodes_end h = d.is ∙ ap (decoded m w) h
+-- what was decoded, where only that was asked for
+pub record Gave (m w₀ w : List ℕ) (x : Read (List ℕ)) (t : Decoded) : Type 0 where
+  pub text : x ≡ got (take t.len w) (drop t.end m)
+  pub room : t.len ≤ 1024
+  pub kept : drop t.len w ≡ drop t.len w₀
 
-  pub decodes_fits : {e n : ℕ} → r ≡ Text.End e n → n ≤ 1024
-  decodes_fits h = (rw h at d.kept).0
+module _ {m w₀ w : List ℕ} {x : Read (List ℕ)} where
+  pub gave : {t : Decoded} → Decodes m w₀ w x (Ok t) → Gave m w₀ w x t
+  gave d = record { text = d.is; room = d.kept.0; kept = d.kept.1 }
 
-  pub decodes_kept : {e n : ℕ} → r ≡ Text.End e n → drop n w ≡ drop n w₀
-  decodes_kept h = (rw h at d.kept).1
+  pub gave_some : (r : Result Decoded code.Fault) {o : Option Decoded} {t : Decoded} → Decodes m w₀ w x r → o ≡ result_ok r → o ≡ Some t → Gave m w₀ w x t
+  gave_some (Ok u) {o} {t} d e q = let z : u ≡ t = cc in gave (rw z at d)
+  gave_some (Err f) d e q = absurd (let z : ◌≡◌ {A = ℕ} 0 1 = cc in omega arith)
 
-  pub decodes_fault : {f : code.Fault} → r ≡ Text.Fault f → x ≡ fault (fault_of f)
-  decodes_fault h = d.is ∙ ap (decoded m w) h
+  pub gave_none : (r : Result Decoded code.Fault) {o : Option Decoded} → Decodes m w₀ w x r → o ≡ result_ok r → o ≡ None → (f : json.Fault) × (x ≡ fault f)
+  gave_none (Ok u) d e q = absurd (let z : ◌≡◌ {A = ℕ} 0 1 = cc in omega arith)
+  gave_none (Err f) d e q = (fault_of f, d.is)

@@ -7,8 +7,8 @@ use native.Mathlib.Omega.{arith}
 use lib.ListN.{length, drop, take, get_or}
 use lib.Seq.{drop-drop}
 use lib.Dec.{eqb, ltb, leb}
-use borrow.Author.Tests.{eq-eqb, ne_eqb, eqb-true, eqb-false, lt-ltb, le-ltb, lt-leb, le-leb, leb-true, leb-false}
-use Rattle.std.specs.Prelude.{if◌then◌else◌}
+use borrow.Author.Tests.{eq-eqb, ne_eqb, eqb-true, eqb-false, lt-ltb, le-ltb, lt-leb, le-leb, ltb-true, ltb-false, leb-true, leb-false}
+use Rattle.std.specs.Prelude.{if◌then◌else◌, Ok}
 use Rattle.definition.specs.Text.{within, equal}
 use Rattle.laws.specs.Local.{and_then_both}
 use Rattle.definition.specs.JsonAt.{has_escape}
@@ -17,7 +17,6 @@ use Rattle.definition.specs.Json.{got, fault, malformed, beyond, and_then, betwe
 use Rattle.json_text.specs.Scanned.{left, Reads}
 use Rattle.json_text.specs.Decoded.{Begun, plain}
 use Rattle.json_text.specs.Texts.{starts_quote}
-use Rattle.json_text.specs.declared.Scan.TheVariants.{End}
 use Rattle.json_string.proofs.Rules.{here, past}
 use Rattle.json_text.proofs.Laws.{left_map}
 
@@ -166,6 +165,13 @@ quoted_out m at l = rw (past m at l)
 pub quoted_beyond : {P : Type 0} (m : List ℕ) (at : ℕ) {k s : List ℕ} → length m ≤ at → quoted (drop at m) ≡ got k s → P
 quoted_beyond m at l h = none (let z = quoted_out m at l in let y : ◌≡◌ {A = ℕ} 0 1 = cc in omega arith)
 
+pub quoted_inside : (m : List ℕ) (at : ℕ) {k s : List ℕ} → quoted (drop at m) ≡ got k s → at < length m
+quoted_inside m at h = go (ltb at (length m)) refl
+  where
+    go : (b : Bool) → ltb at (length m) ≡ b → at < length m
+    go true e = ltb-true _ _ e
+    go false e = quoted_beyond m at (ltb-false _ _ e) h
+
 module _ (m : List ℕ) (at : ℕ) (l : at < length m) where
   pub quoted_no : (get_or m at 0 ≡ 34 → ⊥) → quoted (drop at m) ≡ fault malformed
   unfolding quoted
@@ -183,6 +189,13 @@ pub text_plain : (m : List ℕ) (from r : ℕ) {s t : List ℕ} (u : List ℕ) �
 text_plain m from r {s} {t} u h e q =
     let k : r - from ≡ length (plain (drop from m)) = omega arith in
     rw k (plain_prefix (drop from m)) ∙ sym (plain_string (drop from m) 1024 between free s t h u (plain_stop_at m from r e ∙ q))
+
+-- a string that was read, behind its opening quote; its first quote or backslash is a backslash
+pub quoted_read : (m : List ℕ) (at : ℕ) {k s : List ℕ} → quoted (drop at m) ≡ got k s → string 1024 between (drop (at + 1) m) ≡ got k s
+quoted_read m at {k} {s} h = quoted_string m at k s (quoted_inside m at h) h
+
+pub escaped : (m : List ℕ) (at : ℕ) {k s : List ℕ} → quoted (drop at m) ≡ got k s → (r : ℕ) → r ≡ at + 1 + length (plain (drop (at + 1) m)) → starts_quote (drop r m) ≡ false → has_escape (drop (at + 1) m) ≡ true
+escaped m at {k} {s} h r e q = escape_there (drop (at + 1) m) 1024 between free k s (quoted_read m at h) (ap starts_quote (plain_stop_at m (at + 1) r e) ∙ q)
 
 pub starts_quote_lem : (s : List ℕ) → starts_quote s ≡ true → (u : List ℕ) × (s ≡ 34 ∷ u)
 starts_quote_lem [] e = none (let z : ◌≡◌ {A = Bool} false true = e in let y : ◌≡◌ {A = ℕ} 0 1 = cc in omega arith)
@@ -211,7 +224,7 @@ begun_on {m} {at} {i} g l lo hi q a h =
       rest = g.rest ∙ rw (here m i l) (gives_left (1024 - (i - at)) between between (get_or m i 0) (drop (i + 1) m) (get_or m i 0 ∷ []) (ascii_step (get_or m i 0) lo hi q a) (omega arith) ∙ rw z);
     }
 
-pub begun_quote : {m : List ℕ} {at i : ℕ} → Begun m at i → i < length m → get_or m i 0 ≡ 34 → Reads m (string 1024 between (drop at m)) (End (i + 1))
+pub begun_quote : {m : List ℕ} {at i : ℕ} → Begun m at i → i < length m → get_or m i 0 ≡ 34 → Reads m (string 1024 between (drop at m)) (Ok (i + 1))
 unfolding string go_on step plain_byte
 begun_quote {m} {at} {i} g l q = record { is = g.rest ∙ rw (here m i l) (rw q) }
 

@@ -8,6 +8,7 @@ use native.Mathlib.Omega.{arith}
 use lib.ListN.{length, drop, take, take-append-drop}
 use lib.Seq.{drop-drop, take_all, length-take-le}
 use borrow.Author.Tests.{le-leb, lt-leb}
+use Rattle.std.specs.Prelude.{Option as Answer, Result, Ok, Err, is_ok}
 use Rattle.definition.specs.Text.{equal, overwrite}
 use Rattle.definition.specs.Json.{Read, got, fault, Fault, quoted}
 use Rattle.definition.specs.JsonAt.{is_text, name_is, has_escape, told_at, text_at}
@@ -15,29 +16,23 @@ use Rattle.laws.specs.JsonAtLaws.{text_told}
 use Rattle.json_text.specs.Scanned.{Reads}
 use Rattle.json_text.specs.Texts.{text_of, told, or_empty}
 use Rattle.json_text.specs.declared.TextAt.{TextAt}
-use Rattle.json_text.specs.declared.Scan.{Scan}
-use Rattle.json_text.specs.declared.Scan.TheVariants.{End, Fault as Faulty}
 use Rattle.json_text.specs.declared.Fault as code
 use Rattle.json_text.proofs.Laws.{was_end, was_fault}
 
 -- a name
 module _ (m key : List ℕ) (at : ℕ) {r : Bool} (h : (t s : List ℕ) → quoted (drop at m) ≡ got t s → r ≡ equal t key) where
-  pub name_other : r ≡ false → false ≡ name_is key (drop at m)
+  pub name_other : r ≡ false → r ≡ name_is key (drop at m)
   unfolding name_is is_text
-  name_other e = go (quoted (drop at m)) refl
+  name_other e = e ∙ go (quoted (drop at m)) refl
     where
       go : (x : Read (List ℕ)) → quoted (drop at m) ≡ x → false ≡ is_text x key
       go (got t s) q = sym e ∙ h t s q
       go (fault f) q = refl
 
-  module _ {q : Scan} (g : Reads m (quoted (drop at m)) q) where
-    pub name_same : {i : ℕ} → q ≡ End i → r ≡ true → true ≡ name_is key (drop at m)
-    unfolding name_is is_text
-    name_same {i} k e = let z = was_end g k in rw z.1 (sym e ∙ h z.0 (drop i m) z.1)
-
-    pub name_faulty : {f : code.Fault} → q ≡ Faulty f → false ≡ name_is key (drop at m)
-    unfolding name_is is_text
-    name_faulty k = rw (was_fault g k)
+  pub name_read : r ≡ true → (q : Result ℕ code.Fault) → Reads m (quoted (drop at m)) q → {o : Bool} → o ≡ is_ok q → o ≡ name_is key (drop at m)
+  unfolding name_is is_text
+  name_read e (Ok i) g o = let z = was_end g in o ∙ rw z.1 (sym e ∙ h z.0 (drop i m) z.1)
+  name_read e (Err f) g o = o ∙ rw (was_fault g)
 
 -- the text of a string
 module _ (m : List ℕ) (at : ℕ) (w : List ℕ) where
@@ -73,5 +68,5 @@ module _ (m : List ℕ) (at : ℕ) (w : List ℕ) where
           sym (told_as ∙ rw (e, q) (rw (le-leb 1024 (length w) l, f, y, d) (ap (λ x. record { text = some t; work = x }) (sym z))))
 
 -- what a caller has of a string that was read
-pub text_read : (m w w' : List ℕ) (at : ℕ) (r : TextAt) {t u s : List ℕ} → 1024 ≤ length w → told m w' r ≡ text_at (drop at m) w → u ≡ or_empty (text_of m w' r) → quoted (drop at m) ≡ got t s → u ≡ t
+pub text_read : (m w w' : List ℕ) (at : ℕ) (r : Answer TextAt) {t u s : List ℕ} → 1024 ≤ length w → told m w' r ≡ text_at (drop at m) w → u ≡ or_empty (text_of m w' r) → quoted (drop at m) ≡ got t s → u ≡ t
 text_read m w w' at r {t} {u} {s} l e f q = f ∙ ap or_empty (ap (λ x. x.text) e ∙ text_told (drop at m) w t s l q)

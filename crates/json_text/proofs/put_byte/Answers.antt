@@ -8,4 +8,4 @@ pub returns-then-n-lt-ROOM : goal.returns-then-n-lt-ROOM
 returns-then-n-lt-ROOM c = put_one _ _ c.requires.1 _ (omega arith)
 
 pub returns : goal.returns
-returns c = (search rules, refl)
+returns c = (refl, search rules, refl)
