@@ -14,13 +14,13 @@ unfolding if_directory
 returns-in_err-is_directory-clause-done c =
     rw c.from_residual.ensures (is_done _ (enough _ c.if-work-lt1024.false) (done_stop _ (c.in_err-is_directory.ensures.done _)))
 
-pub returns-then-is_directory-clause-done : goal.returns-then-is_directory-clause-done
+pub returns-then-branch-clause-done : goal.returns-then-branch-clause-done
 unfolding if_directory when
-returns-then-is_directory-clause-done c =
+returns-then-branch-clause-done c =
     let h = enough _ c.if-work-lt1024.false in
-    is_done _ h (done_bind _ (c.in_ok-is_directory.ensures.done _) (rw c.if-is_directory.true (was_done h c.load_as_directory.ensures.done)))
+    is_done _ h (done_bind _ (c.in_ok-is_directory.ensures.done _) (rw c.if-branch.true (was_done h c.load_as_directory.ensures.done)))
 
 pub returns-clause-done : goal.returns-clause-done
 unfolding if_directory when
 returns-clause-done c =
-    is_done _ (enough _ c.if-work-lt1024.false) (done_bind _ (c.in_ok-is_directory.ensures.done _) (rw c.if-is_directory.false done_ret))
+    is_done _ (enough _ c.if-work-lt1024.false) (done_bind _ (c.in_ok-is_directory.ensures.done _) (rw c.if-branch.false done_ret))

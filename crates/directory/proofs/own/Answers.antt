@@ -7,25 +7,25 @@ use Rattle.laws.specs.TextLaws.{equal_true}
 use Rattle.directory.proofs.Manifests.{own_stop, own_nowhere, own_here, own_above, scope_fits}
 use Rattle.directory.proofs.own.Goals as goal
 
-pub returns-in_err-scope-clause-done : goal.returns-in_err-scope-clause-done
-returns-in_err-scope-clause-done c G = rw c.from_residual.ensures (own_stop G _ (c.in_err-scope.ensures.done G))
+pub returns-in_err-package-clause-done : goal.returns-in_err-package-clause-done
+returns-in_err-package-clause-done c G = rw c.from_residual.ensures (own_stop G _ (c.in_err-package.ensures.done G))
 
 pub returns-in_default-clause-done : goal.returns-in_default-clause-done
-returns-in_default-clause-done c G = own_nowhere G _ (rw c.in_default.is at (c.in_ok-scope.ensures.done G))
+returns-in_default-clause-done c G = own_nowhere G _ (rw c.in_default.is at (c.in_ok-package.ensures.done G))
 
 pub returns-then-not-equal-clause-done : goal.returns-then-not-equal-clause-done
 returns-then-not-equal-clause-done c G =
-    own_above G _ _ (rw c.in-Some.is at (c.in_ok-scope.ensures.done G)) (sym c.equal.ensures ∙ c.if-not-equal.true)
+    own_above G _ _ (rw c.in-Some.is at (c.in_ok-package.ensures.done G)) (sym c.equal.ensures ∙ c.if-not-equal.true)
 
 pub returns-clause-done : goal.returns-clause-done
 returns-clause-done c G =
-    own_here G _ _ (rw c.in-Some.is at (c.in_ok-scope.ensures.done G)) (sym c.equal.ensures ∙ c.if-not-equal.false)
+    own_here G _ _ (rw c.in-Some.is at (c.in_ok-package.ensures.done G)) (sym c.equal.ensures ∙ c.if-not-equal.false)
 
 pub returns-clause-held : goal.returns-clause-held
-returns-clause-held c = rw c.in-Some.is at c.in_ok-scope.ensures.held
+returns-clause-held c = rw c.in-Some.is at c.in_ok-package.ensures.held
 
 pub returns-clause-fits : goal.returns-clause-fits
 returns-clause-fits c =
     let e = equal_true _ _ (sym c.equal.ensures ∙ c.if-not-equal.false) in
-    let h = scope_fits (settings_of []) (dirs c.args.dir.now) _ (rw c.in-Some.is at (c.in_ok-scope.ensures.done (settings_of []))) in
+    let h = scope_fits (settings_of []) (dirs c.args.dir.now) _ (rw c.in-Some.is at (c.in_ok-package.ensures.done (settings_of []))) in
     (e, rw e at h)

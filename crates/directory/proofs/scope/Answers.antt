@@ -5,20 +5,20 @@ use Rattle.definition.specs.Settings.{settings_of}
 use Rattle.directory.proofs.Manifests.{sought_fits, nearest_none, nearest_found, nearest_stop}
 use Rattle.directory.proofs.scope.Goals as goal
 
-pub returns-in_err-find_package_json-clause-done : goal.returns-in_err-find_package_json-clause-done
-returns-in_err-find_package_json-clause-done c G = rw c.from_residual.ensures (nearest_stop G _ _ (c.in_err-find_package_json.ensures.done G))
+pub returns-in_err-near-clause-done : goal.returns-in_err-near-clause-done
+returns-in_err-near-clause-done c G = rw c.from_residual.ensures (nearest_stop G _ _ (c.in_err-near.ensures.done G))
 
 pub returns-in_default-clause-done : goal.returns-in_default-clause-done
-returns-in_default-clause-done c G = nearest_none G _ (rw c.in_default.is at (c.in_ok-find_package_json.ensures.done G))
+returns-in_default-clause-done c G = nearest_none G _ (rw c.in_default.is at (c.in_ok-near.ensures.done G))
 
 pub judge-requires : goal.judge-requires
-judge-requires c = sought_fits (dirs c.args.dir.now) _ (rw c.in-Some.is at (c.in_ok-find_package_json.ensures.done (settings_of [])))
+judge-requires c = sought_fits (dirs c.args.dir.now) _ (rw c.in-Some.is at (c.in_ok-near.ensures.done (settings_of [])))
 
-pub returns-in_err-judge-clause-done : goal.returns-in_err-judge-clause-done
-returns-in_err-judge-clause-done c G =
-    rw c.from_residual-in_err-judge.ensures
-    (nearest_found G _ _ (rw c.in-Some.is at (c.in_ok-find_package_json.ensures.done G)) (c.in_err-judge.ensures.done _ G))
+pub returns-in_err-package-clause-done : goal.returns-in_err-package-clause-done
+returns-in_err-package-clause-done c G =
+    rw c.from_residual-in_err-package.ensures
+    (nearest_found G _ _ (rw c.in-Some.is at (c.in_ok-near.ensures.done G)) (c.in_err-package.ensures.done _ G))
 
 pub returns-clause-done : goal.returns-clause-done
 returns-clause-done c G =
-    nearest_found G _ _ (rw c.in-Some.is at (c.in_ok-find_package_json.ensures.done G)) (c.in_ok-judge.ensures.done _ G)
+    nearest_found G _ _ (rw c.in-Some.is at (c.in_ok-near.ensures.done G)) (c.in_ok-package.ensures.done _ G)
