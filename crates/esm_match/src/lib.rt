@@ -73,7 +73,7 @@ pub fn resolve_in_context(
     if work.len() < 1024 {
         return ControlFlow::Break(consults::refuse(Refusal::WorkTooShort));
     }
-    if context.query.len == 0 && context.fragment.len == 0 {
+    if context.query.span.len == 0 && context.fragment.span.len == 0 {
         return resolve_esm_match(job, spec, Place::bare(path), tape, work);
     }
     resolve_with_texts(job, spec, path, manifest, context, tape, work)
