@@ -17,6 +17,7 @@ use Rattle.laws.specs.JsonAtLaws.{members_there, no_members, elements_there, no_
 use Rattle.laws.specs.JsonSoundLaws.{quoted_sound}
 use Rattle.std.specs.Prelude.{Option, Some, None, unwrap_or, ◌⊎◌}
 use Rattle.std.proofs.Common.{inl, inr}
+use Rattle.std.specs.declared.option.Option as told_text
 use Rattle.json_text.specs.declared.TextAt.{TextAt}
 use Rattle.package_json.specs.Values as values
 use Rattle.package_json.proofs.Values.{text_written, array_written, object_written}
@@ -181,7 +182,7 @@ module _ {m : List ℕ} {d i : ℕ} {s : List ℕ} (h : Stands m d i (str s)) wh
   pub string_is : string_at m i ≡ s
   string_is = ap read_text (at.text_here text_there)
 
-  pub text_target : (w w' : List ℕ) (r : TextAt) (t : List ℕ) → 1024 ≤ length w → told m w' r ≡ text_at (drop i m) w → t ≡ or_empty (text_of m w' r) → t ≡ s
+  pub text_target : (w w' : List ℕ) (r : told_text.Option TextAt) (t : List ℕ) → 1024 ≤ length w → told m w' r ≡ text_at (drop i m) w → t ≡ or_empty (text_of m w' r) → t ≡ s
   text_target w w' r t l e f = f ∙ ap (λ z. or_empty z.text) e ∙ text_read (drop i m) w l ∙ string_is
 
 -- a key's name is a string too
