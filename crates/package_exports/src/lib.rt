@@ -17,6 +17,7 @@ ghost use Rattle.package_exports.specs.Routines.{match_exports, room_for};
 
 use consults::{Ending, Job, Tape};
 use directory::Package;
+use exports::Field;
 use path::PathBuf;
 use refusal::Refusal;
 use settings::Kind;
@@ -26,10 +27,9 @@ use std::ops::ControlFlow;
 fn exports_field(m: &[u8], root: usize, s: &[u8]) -> Option<usize>
     ensures { (j : Json) → Stands 16 (drop root m.now) j → Finds 15 (first_field j (texts_of s.now 4)) (placed m.now result) }
 {
-    for i in 0..settings::count(s, Kind::ExportsFields) {
-        let at = package_json::get(m, root, settings::text(s, Kind::ExportsFields, i));
-        if at.is_some() {
-            return at;
+    for name in settings::texts(s, Kind::ExportsFields) {
+        if let Some(at) = package_json::get(m, root, name) {
+            return Some(at);
         }
     }
     None
@@ -39,40 +39,30 @@ fn exports_field(m: &[u8], root: usize, s: &[u8]) -> Option<usize>
 fn resolve_exports(
     job: Job<'_>,
     spec: &[u8],
-    dir: &[u8],
     subpath: &[u8],
-    manifest: &[u8],
+    package: Package<'_>,
     at: usize,
     tape: &mut Tape<'_>,
     work: &mut [u8],
 ) -> ControlFlow<Ending>
-    requires { (1024 ≤ length work.old) × (length (manifest_of dir.now) ≤ 2048) }
-    ensures done { (j : Json) → Stands 15 (drop at manifest.now) j → Done (seen_in job.entry) (match_exports (settings_in job.entry) spec.now dir.now subpath.now j) (tape_of tape.old) (tape_of tape.new) (step_of result) }
+    requires { (1024 ≤ length work.old) × (length (manifest_of «package».dir.now) ≤ 2048) }
     ensures same { Same tape.old tape.new }
+    ensures done { (j : Json) → Stands 15 (drop at «package».entry.manifest.now) j → Done (seen_in job.entry) (match_exports (settings_in job.entry) spec.now «package».entry.dir.now subpath.now j) (tape_of tape.old) (tape_of tape.new) (step_of result) }
 {
-    let mut path = PathBuf::new();
-    let resolved = exports::package_exports_resolve(
+    let manifest = package.manifest;
+    let dir = package.dir;
+    let field = Field {
         manifest,
         at,
-        job.settings,
-        dir,
-        subpath,
-        work,
-        &mut path.bytes,
-    );
+        settings: job.settings,
+        url: dir,
+    };
+    let mut path = PathBuf::new();
+    let resolved = exports::package_exports_resolve(field, subpath, work, &mut path.bytes);
     let target = path::first(&path.bytes, resolved.answer.len);
-    exports_ending::exports_ending(
-        manifest, dir, subpath, resolved, target, tape, work,
-    )?;
-    esm_match::resolve_in_context(
-        job,
-        spec,
-        target,
-        manifest,
-        resolved.answer.context,
-        tape,
-        work,
-    )
+    exports_ending::exports_ending(manifest, dir, subpath, resolved, target, tape, work)?;
+    let context = resolved.answer.context;
+    esm_match::resolve_in_context(job, spec, target, manifest, context, tape, work)
 }
 
 // LOAD_PACKAGE_EXPORTS, 4. to 6.: without an exports field it comes back.
@@ -84,9 +74,9 @@ fn by_exports(
     tape: &mut Tape<'_>,
     work: &mut [u8],
 ) -> ControlFlow<Ending>
-    requires { (1024 ≤ length work.old) × (length sub.now ≤ 512) × (length (manifest_of package.dir.now) ≤ 2048) }
-    ensures done { (j : Json) → Stands 16 (drop package.entry.root package.entry.manifest.now) j → Done (seen_in job.entry) (by_exports (settings_in job.entry) spec.now package.entry.dir.now sub.now (manifest_view (settings_in job.entry) j)) (tape_of tape.old) (tape_of tape.new) (step_of result) }
+    requires { (1024 ≤ length work.old) × (length sub.now ≤ 512) × (length (manifest_of «package».dir.now) ≤ 2048) }
     ensures same { Same tape.old tape.new }
+    ensures done { (j : Json) → Stands 16 (drop «package».entry.root «package».entry.manifest.now) j → Done (seen_in job.entry) (by_exports (settings_in job.entry) spec.now «package».entry.dir.now sub.now (manifest_view (settings_in job.entry) j)) (tape_of tape.old) (tape_of tape.new) (step_of result) }
 {
     let Some(at) = exports_field(package.manifest, package.root, job.settings) else {
         return ControlFlow::Continue(());
@@ -94,7 +84,7 @@ fn by_exports(
     let mut dotted = [0u8; 513];
     let n = package_name::dot_subpath(sub, &mut dotted);
     let subpath = path::first(&dotted, n);
-    resolve_exports(job, spec, package.dir, subpath, package.manifest, at, tape, work)
+    resolve_exports(job, spec, subpath, package, at, tape, work)
 }
 
 // LOAD_PACKAGE_EXPORTS(X, DIR): a directory with no manifest of its own has no exports. It wants 1,024 bytes of work memory, which end as
@@ -130,9 +120,9 @@ fn in_scope(
     tape: &mut Tape<'_>,
     work: &mut [u8],
 ) -> ControlFlow<Ending>
-    requires { (1024 ≤ length work.old) × (length spec.now ≤ 512) × (length (manifest_of package.dir.now) ≤ 2048) }
-    ensures done { (j : Json) → Stands 16 (drop package.entry.root package.entry.manifest.now) j → Done (seen_in job.entry) (in_scope (settings_in job.entry) spec.now (record { dir = package.entry.dir.now; manifest = manifest_view (settings_in job.entry) j })) (tape_of tape.old) (tape_of tape.new) (step_of result) }
+    requires { (1024 ≤ length work.old) × (length spec.now ≤ 512) × (length (manifest_of «package».dir.now) ≤ 2048) }
     ensures same { Same tape.old tape.new }
+    ensures done { (j : Json) → Stands 16 (drop «package».entry.root «package».entry.manifest.now) j → Done (seen_in job.entry) (in_scope (settings_in job.entry) spec.now (record { dir = «package».entry.dir.now; manifest = manifest_view (settings_in job.entry) j })) (tape_of tape.old) (tape_of tape.new) (step_of result) }
 {
     let Some(at) = directory::text_field(package.manifest, package.root, b"name", work) else {
         return ControlFlow::Continue(());
