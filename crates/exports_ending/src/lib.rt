@@ -116,7 +116,7 @@ pub fn exports_ending(
     work: &mut [u8],
 ) -> ControlFlow<Ending>
     ensures same { Same tape.old tape.new }
-    ensures done { (L : Listing Sees) (c : Context) → DoneUnless L (given (resolved_to c dir.now subpath.now (outcome_in dir.now (key_text m.now subpath.now resolved.entry.key) (match_of subpath.now resolved.entry.matched) resolved.entry.answer.outcome target.now))) (tape_of tape.old) (room_naming (length work.old) (length (manifest_of dir.now))) (tape_of tape.new) (step_by (found_of c target.now) result) }
+    ensures done { (L : Listing Sees) (c : Context) → DoneUnless L (given (resolved_to c dir.now subpath.now (outcome_in dir.now (key_text m.now subpath.now resolved.key) (match_of subpath.now resolved.matched) resolved.answer.outcome target.now))) (tape_of tape.old) (room_naming (length work.old) (length (manifest_of dir.now))) (tape_of tape.new) (step_by (found_of c target.now) result) }
 {
     if work.len() < 1024 {
         return ControlFlow::Break(consults::refuse(Refusal::WorkTooShort));

@@ -1,7 +1,6 @@
 -- The manifest's path fits, and the key's text is read where one stands in the manifest.
 use mathlib.Core.Path.{◌∙◌, ap}
 use Rattle.json_text.specs.Texts.{or_empty}
-use Rattle.manifests.proofs.Climbs.{manifest_built}
 use Rattle.directory.proofs.Manifests.{manifest_path, never_long}
 use Rattle.targets.proofs.Contexts.{text_read}
 use Rattle.exports_ending.proofs.invalid_target.Goals as goal
