@@ -11,11 +11,11 @@ pub returns-in_err-go_on-clause-done : goal.returns-in_err-go_on-clause-done
 returns-in_err-go_on-clause-done c =
     rw c.from_residual-in_err-go_on.ensures (package_ended _ _ _ _ _ _ (c.in_ok-is_dir.ensures.done _) c.in_err-go_on.ensures.done)
 
-pub returns-then-not-go_on-clause-done : goal.returns-then-not-go_on-clause-done
-returns-then-not-go_on-clause-done c =
-    package_past _ _ _ _ _ _ (c.in_ok-is_dir.ensures.done _) c.in_ok-go_on.ensures.done c.if-not-go_on.true
+pub returns-then-not-branch-clause-done : goal.returns-then-not-branch-clause-done
+returns-then-not-branch-clause-done c =
+    package_past _ _ _ _ _ _ (c.in_ok-is_dir.ensures.done _) c.in_ok-go_on.ensures.done c.if-not-branch.true
 
 pub returns-clause-done : goal.returns-clause-done
 returns-clause-done c =
-    package_on _ _ _ _ _ _ (c.in_ok-is_dir.ensures.done _) c.in_ok-go_on.ensures.done c.if-not-go_on.false
+    package_on _ _ _ _ _ _ (c.in_ok-is_dir.ensures.done _) c.in_ok-go_on.ensures.done c.if-not-branch.false
     (was_done (enough _ (omega (arith, c.go_on.auto.work, c.requires.0))) c.load_as_file_or_directory.ensures.done)
