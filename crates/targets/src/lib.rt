@@ -222,6 +222,19 @@ pub struct Wanted<'a> {
     pub pattern: &'a [u8],
 }
 
+impl<'a> Wanted<'a> {
+    // For a key without a pattern match.
+    pub fn plain(url: &'a [u8]) -> Wanted<'a>
+        ensures { (result.url.now ≡ url.now) × (result.form ≡ Form.Plain) }
+    {
+        Wanted {
+            url,
+            form: Form::Plain,
+            pattern: &[],
+        }
+    }
+}
+
 pub fn without_path(c: Context, outcome: Outcome) -> Answer
     ensures { (result.context ≡ c) × (result.outcome ≡ outcome) × (result.len ≡ 0) }
 {
