@@ -5,7 +5,7 @@ use mathlib.Core.List.{List, [], ◌∷◌}
 use mathlib.Core.Option.{none, some}
 use Prim.Native.Nat.{ℕ, zero, suc, ◌-◌, ◌≤◌}
 use native.Mathlib.Omega.{arith}
-use lib.ListN.{length, drop}
+use lib.ListN.{length, drop, drop_of_length-le}
 use lib.Dec.{eqb}
 use borrow.Author.Tests.{eq-eqb, ne_eqb, eqb-true, eqb-false}
 use Rattle.definition.specs.Text.{equal}
@@ -88,9 +88,17 @@ module _ (m : List ℕ) (i : ℕ) (c : Option ℕ) where
       let l : x.left ≡ n - 1 = omega (arith, x.count) in
       members_from m d (n - 1) ms c (rw e (rw (l, b) at x.next))
 
--- a value that is written stands for what it means
+-- a value that is written stands for what it means, and stands within the manifest
 pub stands : {m : List ℕ} {d i : ℕ} {j : Json} → Written m d i j → Stands m d i (settled j)
 stands {j = j} h = record { written = j; there = h; means = refl }
+
+pub written_inside : (m : List ℕ) (d i : ℕ) (j : Json) → Written m d i j → length m ≤ i → ⊥
+unfolding value value_by
+written_inside m d i j h l = go d (rw (drop_of_length-le m l) at h.here.reads)
+  where
+    go : (d : ℕ) → value d [] ≡ got j h.here.rest → ⊥
+    go zero e = let z : ◌≡◌ {A = ℕ} 0 1 = cc in omega arith
+    go (suc d) e = let z : ◌≡◌ {A = ℕ} 0 1 = cc in omega arith
 
 -- one element
 pub record OneElement (m : List ℕ) (d n i : ℕ) (js : Elements) : Type 0 where
