@@ -5,14 +5,14 @@ use mathlib.Core.List.{List, [], ◌∷◌}
 use Prim.Native.Nat.{ℕ, zero, suc, ◌+◌, ◌-◌, ◌<◌, ◌≤◌}
 use native.Mathlib.Omega.{arith}
 use lib.Dec.{ltb}
-use lib.ListN.{length, get_or, set, drop, replicate, length-take, get_or-eq_default}
+use lib.ListN.{length, get_or, set, drop, replicate, length-take}
 use borrow.Author.Tests.{lt-ltb, le-ltb, ltb-true, ltb-false}
 use Rattle.std.specs.List.{position, position_or_len}
 use Rattle.std.specs.Prelude.{Some, None, if◌then◌else◌}
 use Rattle.definition.specs.Text.{Text, text, equal, is_one_of}
 use Rattle.definition.specs.Settings.{count_of, count_before, all_texts, texts_of}
 use Rattle.laws.specs.TextLaws.{equal_true}
-use Rattle.std.proofs.lemmas.List.{get_or-map, map-set, length-map, set_past}
+use Rattle.std.proofs.lemmas.List.{get_or-map, map-set}
 use Rattle.package_target.specs.Conditions.{place_in, condition_of, place_of, places, Turn}
 use Rattle.package_target.proofs.Places.{equal_sym}
 
@@ -128,7 +128,7 @@ none_written end (suc n) = rw (le-ltb end end (omega arith)) (ap (λ y. None ∷
 pub place_written : (end : ℕ) (values : List ℕ) (k v : ℕ) → v < end → places end (set values k v) ≡ set (places end values) k (Some v)
 place_written end values k v l = map-set (place_of end) values k v ∙ ap (λ y. set (places end values) k y) (rw (lt-ltb v end l))
 
--- the turn of a condition, and of a name that is none's
+-- the turn of a condition
 module _ (end : ℕ) (values : List ℕ) (l : length values ≡ 256) where
   no_place : place_of end end ≡ None
   no_place = rw (le-ltb end end (omega arith))
@@ -138,11 +138,3 @@ module _ (end : ℕ) (values : List ℕ) (l : length values ≡ 256) where
     taken = sym (get_or-map (place_of end) values k 0 None (omega arith));
     others = map-set (place_of end) values k end ∙ ap (λ y. set (places end values) k y) no_place;
   }
-
-  pub turn_passed : (k : ℕ) → 256 ≤ k → Turn k (places end values) (places end values) None
-  turn_passed k h =
-      let z : length (places end values) ≡ 256 = length-map values (place_of end) ∙ l in
-      record {
-        taken = sym (get_or-eq_default (places end values) None (omega arith));
-        others = sym (set_past (places end values) k None (omega arith));
-      }
