@@ -14,7 +14,7 @@
 
 ghost use Rattle.std.specs.Prelude.{◌≤◌};
 
-use package_json::{Cursor, Kind};
+use package_json::Kind;
 use std::io;
 use std::io::{Read, Write};
 
@@ -141,20 +141,18 @@ fn prefixes_row(row: &[u8], m: &mut [u8]) -> bool {
     no_prefix(text::part(m, 0, n))
 }
 
-fn place(c: Cursor) -> usize {
-    match c {
-        Cursor::At(i) => i,
-        Cursor::Nothing => 99999,
-    }
+// A place, or one past any text here.
+fn place(found: Option<usize>) -> usize {
+    found.unwrap_or(99999)
 }
 
-fn letter_of(k: Kind) -> u8 {
-    match k {
-        Kind::Scalar => b'0',
-        Kind::String => b's',
-        Kind::Array => b'a',
-        Kind::Object => b'o',
-        Kind::Nothing => b'-',
+fn letter_of(kind: Option<Kind>) -> u8 {
+    match kind {
+        Some(Kind::Scalar) => b'0',
+        Some(Kind::String) => b's',
+        Some(Kind::Array) => b'a',
+        Some(Kind::Object) => b'o',
+        None => b'-',
     }
 }
 
