@@ -189,7 +189,7 @@ module _ {m : List ℕ} {d i : ℕ} {s : List ℕ} (h : Stands m d i (str s)) wh
   pub string_is : string_at m i ≡ s
   string_is = ap read_text (at.text_here text_there)
 
-  pub text_target : (w w' : List ℕ) (r : TextAt) (t : List ℕ) → 1024 ≤ length w → told m w' r ≡ text_at (drop i m) w → t ≡ or_empty (text_of m w' r) → t ≡ s
+  pub text_target : (w w' : List ℕ) (r : Option TextAt) (t : List ℕ) → 1024 ≤ length w → told m w' r ≡ text_at (drop i m) w → t ≡ or_empty (text_of m w' r) → t ≡ s
   text_target w w' r t l e f = f ∙ ap (λ z. or_empty z.text) e ∙ text_read (drop i m) w l ∙ string_is
 
 -- a key's name is a string too
