@@ -13,9 +13,8 @@ use Rattle.definition.specs.Json.{Json, scalar, str, arr, obj, Members}
 use Rattle.definition.specs.Exports as exports
 use Rattle.definition.specs.Exports.{failed, InvalidPackageConfig, or_go_on, path_not_exported, Entry, entries, get, any_key, is_dot_key, is_subpath_key, select, selected_resolve, PACKAGE_TARGET_RESOLVE, PACKAGE_IMPORTS_EXPORTS_RESOLVE, is_mixed, dot_or, main_export, main_resolve, key_resolve, PACKAGE_EXPORTS_RESOLVE}
 use Rattle.package_target.specs.Places.{kind_of}
-use Rattle.package_json.specs.declared.Kind.TheVariants.{Scalar, String, Array}
+use Rattle.package_json.specs.declared.Kind.TheVariants.{Scalar}
 use Rattle.targets.specs.declared.Context.{Context}
-use Rattle.targets.specs.declared.Form.TheVariants.{Plain}
 use Rattle.targets.specs.declared.Outcome.{Outcome}
 use Rattle.targets.specs.declared.Answer.{Answer}
 use Rattle.exports.specs.declared.Member.{Member}
@@ -23,8 +22,7 @@ use Rattle.exports.specs.declared.Key.TheVariants.{Subpath}
 use Rattle.exports.specs.declared.Resolved.{Resolved}
 use Rattle.targets.specs.Keys.{match_of}
 use Rattle.targets.specs.Contexts.{context_of}
-use Rattle.targets.specs.Answers.{outcome_in, resolved, answer_of, Asked}
-use Rattle.targets.specs.declared.Wanted.{Wanted}
+use Rattle.targets.specs.Answers.{outcome_in, resolved, answer_of}
 use Rattle.package_target.specs.Answers.{is_nothing}
 use Rattle.exports.specs.Chosen.{key_text, request_for, Applies, resolved_of, dot_request, not_exported, IsWhole}
 use Rattle.package_target.proofs.Loops.{nothing_yet, go_stop}
@@ -56,10 +54,6 @@ pub applied : {m mk : List ℕ} {k : Member} {s : exports.Selected} → Applies 
 applied {m} {mk} {k} {s} h url conds path a =
     ap (λ x. resolved m a.context (outcome_in url x (match_of mk k.matched) a.outcome (take a.len path))) h.named
     ∙ ap (λ x. resolved m a.context (outcome_in url s.key x a.outcome (take a.len path))) h.matched
-
--- the main export
-pub dot_asked : (url : List ℕ) (conds : List (List ℕ)) (w : Wanted) → (w.url.now ≡ url) × (w.form ≡ Plain) → Asked (dot_request url conds) w
-dot_asked url conds w e = record { directory = sym e.0; formed = rw e.1 refl }
 
 -- an answer other than nothing ends the algorithm
 pub ended : (m url subpath path : List ℕ) (r : Resolved) (go : exports.Context → exports.Resolved) → is_nothing r.answer.outcome ≡ false
@@ -138,15 +132,3 @@ module _ (url : List ℕ) (conds : List (List ℕ)) (subpath : List ℕ) (c : ex
         ≡ PACKAGE_EXPORTS_RESOLVE url conds subpath (obj ms) c
     unfolding PACKAGE_EXPORTS_RESOLVE is_mixed key_resolve
     object_is h = rw h
-
-pub whole_string : (j : Json) → String ≡ kind_of j → IsWhole j
-whole_string scalar e = absurd (let z : ◌≡◌ {A = ℕ} 0 1 = cc in omega arith)
-whole_string (str s) e = tt
-whole_string (arr js) e = tt
-whole_string (obj ms) e = absurd (let z : ◌≡◌ {A = ℕ} 0 1 = cc in omega arith)
-
-pub whole_array : (j : Json) → Array ≡ kind_of j → IsWhole j
-whole_array scalar e = absurd (let z : ◌≡◌ {A = ℕ} 0 1 = cc in omega arith)
-whole_array (str s) e = tt
-whole_array (arr js) e = tt
-whole_array (obj ms) e = absurd (let z : ◌≡◌ {A = ℕ} 0 1 = cc in omega arith)

@@ -47,7 +47,7 @@ pub record Below (n v : ℕ) : Type 0 where
   pub at_most : n ≤ 4
   pub small : v < bound n
 
--- the numbers of a place and of an output are in range
+-- the numbers of a place are in range
 abbrev pub Good : Place → Type 0
 Good Between = Unit {0}
 Good (Sequence n lo hi) = 0 < n
@@ -74,15 +74,10 @@ fits (SecondHex h n v) = if within 55296 56319 h then follows n v else false
 unfoldable pub advanced : Place → ℕ → json.Step
 advanced p b = if fits p then json.step (place_of p) b else bad
 
-abbrev pub Fair : Option Out → Type 0
-Fair None = Unit {0}
-Fair (Some (Byte b)) = Unit {0}
-Fair (Some (Point c)) = c < 1114112
-
 abbrev pub GoodStep : Option Step → Type 0
 GoodStep None = Unit {0}
 GoodStep (Some Close) = Unit {0}
-GoodStep (Some (Gives o p)) = Fair o × Good p
+GoodStep (Some (Gives o p)) = Good p
 
 pub record Steps (s : json.Step) (r : Option Step) : Type 0 where
   pub is : step_of r ≡ s

@@ -26,7 +26,7 @@ pub enum Place {
 #[derive(Clone, Copy, Debug, PartialEq, Eq)]
 pub enum Out {
     Byte(u8),
-    Point(u32),
+    Point(char),
 }
 
 // What a byte that fits does: it ends the string, or it leads to a place and may give decoded bytes.
@@ -103,16 +103,23 @@ fn escape_byte(b: u8) -> Option<Step>
     Some(Step::Gives(Some(Out::Byte(meant)), Place::Between))
 }
 
-// The number behind \u.
+// A high surrogate.
+fn is_high(v: u32) -> bool
+    ensures { result ≡ within 55296 56319 v }
+{
+    matches!(v, 0xd800..=0xdbff)
+}
+
+// The number behind \u: a high surrogate waits for its partner, a low one is no character.
 fn unit(v: u32) -> Option<Step>
     requires { v < 65536 }
     ensures { Steps (unit_of v) result }
 {
-    match v {
-        0xd800..=0xdbff => Some(Step::Gives(None, Place::SecondEscape { high: v })),
-        0xdc00..=0xdfff => None,
-        _ => Some(Step::Gives(Some(Out::Point(v)), Place::Between)),
+    if is_high(v) {
+        return Some(Step::Gives(None, Place::SecondEscape { high: v }));
     }
+    let c = char::from_u32(v)?;
+    Some(Step::Gives(Some(Out::Point(c)), Place::Between))
 }
 
 // The two halves of a surrogate pair.
@@ -120,13 +127,11 @@ fn pair(high: u32, low: u32) -> Option<Step>
     requires { High high }
     ensures { Steps (pair_of high low) result }
 {
-    match low {
-        0xdc00..=0xdfff => {
-            let c = 0x10000 + (high - 0xd800) * 0x400 + (low - 0xdc00);
-            Some(Step::Gives(Some(Out::Point(c)), Place::Between))
-        }
-        _ => None,
+    if !matches!(low, 0xdc00..=0xdfff) {
+        return None;
     }
+    let c = char::from_u32(0x10000 + (high - 0xd800) * 0x400 + (low - 0xdc00)).unwrap();
+    Some(Step::Gives(Some(Out::Point(c)), Place::Between))
 }
 
 // The value of hexadecimal digits with one more behind them.
@@ -220,13 +225,6 @@ fn follows(due: u8, value: u32) -> bool
         4 => value == 0,
         _ => false,
     }
-}
-
-// A high surrogate.
-fn is_high(v: u32) -> bool
-    ensures { result ≡ within 55296 56319 v }
-{
-    matches!(v, 0xd800..=0xdbff)
 }
 
 // Whether the numbers of a place are those of one that a string can lead to.

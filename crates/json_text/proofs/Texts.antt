@@ -1,16 +1,18 @@
 -- A string's text and a string that is a given text, by what the code read.
 use mathlib.Core.Path.{◌≡◌, refl, sym, ◌∙◌, ap}
 use mathlib.Core.Bool.{Bool, true, false}
-use mathlib.Core.List.{List, ◌++◌}
+use mathlib.Core.List.{List, [], ◌∷◌, ◌++◌}
 use mathlib.Core.Option.{none, some}
 use Prim.Native.Nat.{ℕ, ◌+◌, ◌-◌, ◌<◌, ◌≤◌}
 use native.Mathlib.Omega.{arith}
 use lib.ListN.{length, drop, take, take-append-drop}
 use lib.Seq.{drop-drop, take_all, length-take-le}
-use borrow.Author.Tests.{le-leb, lt-leb}
+use borrow.Author.Tests.{le-leb, lt-leb, ne_eqb}
+use Rattle.std.specs.List.{slice_range}
+use Rattle.std.proofs.lemmas.Slice.{between_to_end}
 use Rattle.std.specs.Prelude.{Option as Answer, Result, Ok, Err, is_ok}
 use Rattle.definition.specs.Text.{equal, overwrite}
-use Rattle.definition.specs.Json.{Read, got, fault, Fault, quoted}
+use Rattle.definition.specs.Json.{Read, got, fault, Fault, between, string, quoted}
 use Rattle.definition.specs.JsonAt.{is_text, name_is, has_escape, told_at, text_at}
 use Rattle.laws.specs.JsonAtLaws.{text_told}
 use Rattle.json_text.specs.Scanned.{Reads}
@@ -19,20 +21,37 @@ use Rattle.json_text.specs.declared.TextAt.{TextAt}
 use Rattle.json_text.specs.declared.Fault as code
 use Rattle.json_text.proofs.Laws.{was_end, was_fault}
 
--- a name
-module _ (m key : List ℕ) (at : ℕ) {r : Bool} (h : (t s : List ℕ) → quoted (drop at m) ≡ got t s → r ≡ equal t key) where
-  pub name_other : r ≡ false → r ≡ name_is key (drop at m)
-  unfolding name_is is_text
-  name_other e = e ∙ go (quoted (drop at m)) refl
-    where
-      go : (x : Read (List ℕ)) → quoted (drop at m) ≡ x → false ≡ is_text x key
-      go (got t s) q = sym e ∙ h t s q
-      go (fault f) q = refl
+-- a name: by the string behind its quote
+module _ (m key : List ℕ) (at : ℕ) where
+  pub name_none : drop at m ≡ [] → false ≡ name_is key (drop at m)
+  unfolding name_is is_text quoted
+  name_none l = rw l
 
-  pub name_read : r ≡ true → (q : Result ℕ code.Fault) → Reads m (quoted (drop at m)) q → {o : Bool} → o ≡ is_ok q → o ≡ name_is key (drop at m)
-  unfolding name_is is_text
-  name_read e (Ok i) g o = let z = was_end g in o ∙ rw z.1 (sym e ∙ h z.0 (drop i m) z.1)
-  name_read e (Err f) g o = o ∙ rw (was_fault g)
+  module _ {b : ℕ} (l : drop at m ≡ b ∷ drop (at + 1) m) where
+    pub name_unquoted : (b ≡ 34 → ⊥) → false ≡ name_is key (drop at m)
+    unfolding name_is is_text quoted
+    name_unquoted q = rw (l, ne_eqb b 34 q)
+
+    module _ (q : b ≡ 34) {r : Bool} (h : (t u : List ℕ) → string 1024 between (slice_range m (at + 1) (length m)) ≡ got t u → r ≡ equal t key) where
+      told_by : (t u : List ℕ) → string 1024 between (drop (at + 1) m) ≡ got t u → r ≡ equal t key
+      told_by t u e = h t u (ap (string 1024 between) (between_to_end m (at + 1) (length m) (omega arith)) ∙ e)
+
+      behind : name_is key (drop at m) ≡ is_text (string 1024 between (drop (at + 1) m)) key
+      unfolding name_is quoted
+      behind = rw (l, q)
+
+      pub name_other : r ≡ false → r ≡ name_is key (drop at m)
+      unfolding is_text
+      name_other e = e ∙ go (string 1024 between (drop (at + 1) m)) refl ∙ sym behind
+        where
+          go : (x : Read (List ℕ)) → string 1024 between (drop (at + 1) m) ≡ x → false ≡ is_text x key
+          go (got t u) z = sym e ∙ told_by t u z
+          go (fault f) z = refl
+
+      pub name_read : r ≡ true → (x : Result ℕ code.Fault) → Reads m (string 1024 between (drop (at + 1) m)) x → {o : Bool} → o ≡ is_ok x → o ≡ name_is key (drop at m)
+      unfolding is_text
+      name_read e (Ok i) g o = let z = was_end g in o ∙ sym e ∙ told_by z.0 (drop i m) z.1 ∙ sym (behind ∙ ap (λ x. is_text x key) z.1)
+      name_read e (Err f) g o = o ∙ sym (behind ∙ ap (λ x. is_text x key) (was_fault g))
 
 -- the text of a string
 module _ (m : List ℕ) (at : ℕ) (w : List ℕ) where

@@ -1,10 +1,14 @@
 -- What is decoded into a buffer.
-use Rattle.std.specs.Prelude.{◌≡◌, ℕ, ◌+◌, ◌-◌, ◌≤◌, ◌<◌, List, [], ◌∷◌, ◌++◌, ◌||◌, Result, Ok, Err, eqb, length, drop, take, if◌then◌else◌}
+use Rattle.std.specs.Prelude.{Bool, not, ◌&&◌, ◌==◌, nat_le, nat_lt, ◌≡◌, ℕ, ◌+◌, ◌-◌, ◌≤◌, ◌<◌, List, [], ◌∷◌, ◌++◌, ◌||◌, Result, Ok, Err, eqb, length, drop, take, if◌then◌else◌}
 use Rattle.definition.specs.Json.{Read, got, fault, string, between}
 use Rattle.json_text.specs.Scanned.{fault_of, left}
 use Rattle.json_text.specs.declared.Decoded.{Decoded}
 use Rattle.json_text.specs.declared.Fault.{Fault}
 use Rattle.json_text.specs.declared.Fault.TheVariants.{Beyond}
+
+-- an ASCII byte that stands for itself in a string
+abbrev pub is_plain : ℕ → Bool
+is_plain b = nat_le 32 b && nat_lt b 128 && not (b == 34) && not (b == 92)
 
 -- the bytes from `at` to i stand for themselves in a string
 pub record Begun (m : List ℕ) (at i : ℕ) : Type 0 where

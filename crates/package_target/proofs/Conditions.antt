@@ -5,14 +5,15 @@ use mathlib.Core.List.{List, [], ◌∷◌}
 use Prim.Native.Nat.{ℕ, zero, suc, ◌+◌, ◌-◌, ◌<◌, ◌≤◌}
 use native.Mathlib.Omega.{arith}
 use lib.Dec.{ltb}
-use lib.ListN.{length, get_or, drop, length-take}
-use borrow.Author.Tests.{lt-ltb, ltb-true, ltb-false}
+use lib.ListN.{length, get_or, set, drop, replicate, length-take}
+use borrow.Author.Tests.{lt-ltb, le-ltb, ltb-true, ltb-false}
 use Rattle.std.specs.List.{position, position_or_len}
 use Rattle.std.specs.Prelude.{Some, None, if◌then◌else◌}
 use Rattle.definition.specs.Text.{Text, text, equal, is_one_of}
 use Rattle.definition.specs.Settings.{count_of, count_before, all_texts, texts_of}
 use Rattle.laws.specs.TextLaws.{equal_true}
-use Rattle.package_target.specs.Conditions.{place_in, condition_of}
+use Rattle.std.proofs.lemmas.List.{get_or-map, map-set}
+use Rattle.package_target.specs.Conditions.{place_in, condition_of, place_of, places, Turn}
 use Rattle.package_target.proofs.Places.{equal_sym}
 
 by : (u : Bool) {P : Type 0} → (u ≡ true → P) → (u ≡ false → P) → P
@@ -118,3 +119,22 @@ not_default k cs e = rw e
 pub counted : (s : List ℕ) → length (texts_of s 0) ≤ get_or s 0 0
 unfolding texts_of count_of
 counted s = omega (arith, length-take (get_or s 0 0) (drop (count_before s 0) (all_texts s)))
+
+-- tables of places
+pub none_written : (end n : ℕ) → places end (replicate n end) ≡ replicate n None
+none_written end zero = refl
+none_written end (suc n) = rw (le-ltb end end (omega arith)) (ap (λ y. None ∷ y) (none_written end n))
+
+pub place_written : (end : ℕ) (values : List ℕ) (k v : ℕ) → v < end → places end (set values k v) ≡ set (places end values) k (Some v)
+place_written end values k v l = map-set (place_of end) values k v ∙ ap (λ y. set (places end values) k y) (rw (lt-ltb v end l))
+
+-- the turn of a condition
+module _ (end : ℕ) (values : List ℕ) (l : length values ≡ 256) where
+  no_place : place_of end end ≡ None
+  no_place = rw (le-ltb end end (omega arith))
+
+  pub turn_taken : (k : ℕ) → k < 256 → Turn k (places end values) (places end (set values k end)) (place_of end (get_or values k 0))
+  turn_taken k h = record {
+    taken = sym (get_or-map (place_of end) values k 0 None (omega arith));
+    others = map-set (place_of end) values k end ∙ ap (λ y. set (places end values) k y) no_place;
+  }

@@ -5,6 +5,8 @@ use mathlib.Core.List.{List}
 use mathlib.Core.Option.{Option, none, some}
 use Prim.Native.Nat.{ℕ, ◌<◌}
 use native.Mathlib.Omega.{arith}
+use lib.Dec.{ltb}
+use borrow.Author.Tests.{ltb-true, ltb-false}
 use lib.ListN.{length, drop, get_or, set, replicate, get_or-replicate, length-replicate, length-set}
 use lib.Seq.{get_or-set_same, get_or-set_other}
 use Rattle.std.specs.Prelude.{Option as Answer, Some, None}
@@ -13,7 +15,7 @@ use Rattle.laws.specs.TextLaws.{equal_true, equal_refl}
 use Rattle.definition.specs.Json.{Json, Members, member, got, quoted}
 use Rattle.laws.specs.SettledLaws.{last_from}
 use Rattle.package_target.specs.Conditions.{condition_of, StandsIf, LastValues}
-use Rattle.package_target.proofs.Places.{equal_sym}
+use Rattle.package_target.proofs.Places.{equal_sym, written_inside}
 use Rattle.package_target.proofs.Walks.{WalkAt, First, walk_end, walk_on}
 use Rattle.package_target.specs.declared.Member.{Member}
 use Rattle.package_target.specs.declared.MembersLeft.{MembersLeft}
@@ -61,15 +63,22 @@ module _ {m : List ℕ} {d : ℕ} {cs : List Text} {values : List (Answer ℕ)} 
           rw z w.there
 
   module _ {x : Member} {t : MembersLeft} (c : Comes s x t) (next : List (Answer ℕ))
-      (u : (k r : List ℕ) → quoted (drop x.name m) ≡ got k r → next ≡ set values (condition_of cs k) (Some x.value)) where
+      (u : (k r : List ℕ) → quoted (drop x.name m) ≡ got k r → x.value < length m → next ≡ set values (condition_of cs k) (Some x.value)) where
     that : First m d x t g.others
     that = walk_on g.walk c
 
     abbrev index : ℕ
     index = condition_of cs that.name
 
+    inside : x.value < length m
+    inside = go (ltb x.value (length m)) refl
+      where
+        go : (b : Bool) → ltb x.value (length m) ≡ b → x.value < length m
+        go true e = ltb-true _ _ e
+        go false e = absurd (written_inside m d x.value that.val that.value (ltb-false _ _ e))
+
     put : next ≡ set values index (Some x.value)
-    put = u that.name that.behind that.quote
+    put = u that.name that.behind that.quote inside
 
     own : Gathered m d (Some x.value) that.name that.others ms → (k : Text) → condition_of cs k < 256 → that.name ≡ k
         → Gathered m d (get_or next (condition_of cs k) None) k that.others ms

@@ -5,7 +5,7 @@ use mathlib.Core.List.{List, [], ◌∷◌}
 use mathlib.Core.Option.{none, some}
 use Prim.Native.Nat.{ℕ, zero, suc, ◌-◌, ◌≤◌}
 use native.Mathlib.Omega.{arith}
-use lib.ListN.{length, drop}
+use lib.ListN.{length, drop, drop_of_length-le}
 use lib.Dec.{eqb}
 use borrow.Author.Tests.{eq-eqb, ne_eqb, eqb-true, eqb-false}
 use Rattle.definition.specs.Text.{equal}
@@ -17,7 +17,6 @@ use Rattle.laws.specs.JsonAtLaws.{members_there, no_members, elements_there, no_
 use Rattle.laws.specs.JsonSoundLaws.{quoted_sound}
 use Rattle.std.specs.Prelude.{Option, Some, None, unwrap_or, ◌⊎◌}
 use Rattle.std.proofs.Common.{inl, inr}
-use Rattle.std.specs.declared.option.Option as told_text
 use Rattle.json_text.specs.declared.TextAt.{TextAt}
 use Rattle.package_json.specs.Values as values
 use Rattle.package_json.proofs.Values.{text_written, array_written, object_written}
@@ -89,9 +88,17 @@ module _ (m : List ℕ) (i : ℕ) (c : Option ℕ) where
       let l : x.left ≡ n - 1 = omega (arith, x.count) in
       members_from m d (n - 1) ms c (rw e (rw (l, b) at x.next))
 
--- a value that is written stands for what it means
+-- a value that is written stands for what it means, and stands within the manifest
 pub stands : {m : List ℕ} {d i : ℕ} {j : Json} → Written m d i j → Stands m d i (settled j)
 stands {j = j} h = record { written = j; there = h; means = refl }
+
+pub written_inside : (m : List ℕ) (d i : ℕ) (j : Json) → Written m d i j → length m ≤ i → ⊥
+unfolding value value_by
+written_inside m d i j h l = go d (rw (drop_of_length-le m l) at h.here.reads)
+  where
+    go : (d : ℕ) → value d [] ≡ got j h.here.rest → ⊥
+    go zero e = let z : ◌≡◌ {A = ℕ} 0 1 = cc in omega arith
+    go (suc d) e = let z : ◌≡◌ {A = ℕ} 0 1 = cc in omega arith
 
 -- one element
 pub record OneElement (m : List ℕ) (d n i : ℕ) (js : Elements) : Type 0 where
@@ -182,7 +189,7 @@ module _ {m : List ℕ} {d i : ℕ} {s : List ℕ} (h : Stands m d i (str s)) wh
   pub string_is : string_at m i ≡ s
   string_is = ap read_text (at.text_here text_there)
 
-  pub text_target : (w w' : List ℕ) (r : told_text.Option TextAt) (t : List ℕ) → 1024 ≤ length w → told m w' r ≡ text_at (drop i m) w → t ≡ or_empty (text_of m w' r) → t ≡ s
+  pub text_target : (w w' : List ℕ) (r : Option TextAt) (t : List ℕ) → 1024 ≤ length w → told m w' r ≡ text_at (drop i m) w → t ≡ or_empty (text_of m w' r) → t ≡ s
   text_target w w' r t l e f = f ∙ ap (λ z. or_empty z.text) e ∙ text_read (drop i m) w l ∙ string_is
 
 -- a key's name is a string too

@@ -1,5 +1,6 @@
 -- Which condition a name is, and where the last value of a name stands.
-use Rattle.std.specs.Prelude.{◌≡◌, List, [], ◌∷◌, ℕ, suc, ◌≤◌, ◌<◌, length, get_or, set, Option, Some, None, if◌then◌else◌}
+use Rattle.std.specs.Prelude.{◌≡◌, List, [], ◌∷◌, ℕ, suc, ◌≤◌, ◌<◌, ltb, length, map, get_or, set, Option, Some, None, if◌then◌else◌}
+use Rattle.std.specs.Bool.{then_some}
 use Rattle.std.proofs.Math.Option as definition
 use Rattle.std.proofs.Math.Option.{none, some}
 use Rattle.definition.specs.Text.{Text, text, equal}
@@ -20,6 +21,13 @@ condition_of cs k = if equal k (text "default") then 0 else place_in 1 cs k
 abbrev pub IsCondition : ℕ → Option ℕ → Type 0
 IsCondition c (Some k) = k ≡ c
 IsCondition c None = 256 ≤ c
+
+-- the places of a table, in which one past the end is none
+abbrev pub place_of : ℕ → ℕ → Option ℕ
+place_of end i = then_some (ltb i end) i
+
+abbrev pub places : ℕ → List ℕ → List (Option ℕ)
+places end values = map (place_of end) values
 
 -- a value stands at a place, or there is neither
 abbrev pub StandsIf : List ℕ → ℕ → Option ℕ → definition.Option Json → Type 0

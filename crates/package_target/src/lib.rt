@@ -17,7 +17,7 @@ ghost use Rattle.targets.specs.Contexts.{context_of};
 ghost use Rattle.targets.specs.Answers.{answer_of, Asked};
 ghost use Rattle.package_target.specs.Places.{Written, Stands, kind_of};
 ghost use Rattle.package_target.specs.Walks.{Gives};
-ghost use Rattle.package_target.specs.Conditions.{condition_of, IsCondition, LastValues, Turn};
+ghost use Rattle.package_target.specs.Conditions.{condition_of, IsCondition, places, LastValues, Turn};
 ghost use Rattle.package_target.specs.Answers.{Requested, SameBuffers, is_nothing, is_passed};
 
 use package_json::Kind;
@@ -109,14 +109,15 @@ fn condition_at(m: &[u8], at: usize, settings: &[u8]) -> Option<usize>
     Some(1 + setting_at(m, at, settings)?)
 }
 
-// The last value of each condition that the object at a place names, by its place.
-fn last_values(m: &[u8], at: usize, settings: &[u8]) -> [Option<usize>; 256]
-    ensures { (d : ℕ) (ms : Members) → Written m.now (suc d) at (obj ms) → LastValues m.now d (texts_of settings.now 0) result ms }
+// The last value of each condition that the object at a place names, by its place, and the manifest's end where it names none: options would take
+// twice the stack, of which each of up to 16 levels has such a table.
+fn last_values(m: &[u8], at: usize, settings: &[u8]) -> [usize; CONDITIONS]
+    ensures { (d : ℕ) (ms : Members) → Written m.now (suc d) at (obj ms) → LastValues m.now d (texts_of settings.now 0) (places (length m.now) result) ms }
 {
-    let mut values = [None; CONDITIONS];
+    let mut values = [m.len(); CONDITIONS];
     for member in members(m, at) {
         if let Some(k) = condition_at(m, member.name, settings) {
-            values[k] = Some(member.value);
+            values[k] = member.value;
         }
     }
     values
@@ -127,12 +128,15 @@ fn take_turn(
     m: &[u8],
     at: usize,
     settings: &[u8],
-    values: &mut [Option<usize>; 256],
+    values: &mut [usize; CONDITIONS],
 ) -> Option<usize>
     ensures few { length (texts_of settings.now 0) < 256 }
-    ensures by_index { (k s : List ℕ) → quoted (drop at m.now) ≡ got k s → Turn (condition_of (texts_of settings.now 0) k) values.old values.new result }
+    ensures by_index { (k s : List ℕ) → quoted (drop at m.now) ≡ got k s → Turn (condition_of (texts_of settings.now 0) k) (places (length m.now) values.old) (places (length m.now) values.new) result }
 {
-    values[condition_at(m, at, settings)?].take()
+    let k = condition_at(m, at, settings)?;
+    let place = values[k];
+    values[k] = m.len();
+    (place < m.len()).then_some(place)
 }
 
 // Nothing was found: the next condition, or the next part of the algorithm, is tried.

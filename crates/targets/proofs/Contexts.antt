@@ -11,7 +11,7 @@ use Rattle.definition.specs.JsonAt.{text_at, told_at}
 use Rattle.laws.specs.JsonAtLaws.{text_told}
 use Rattle.laws.specs.JsonSoundLaws.{quoted_sound}
 use Rattle.definition.specs.Exports.{or_old}
-use Rattle.std.specs.declared.option.Option as told_text
+use Rattle.std.specs.Prelude.{Option}
 use Rattle.json_text.specs.declared.TextAt.{TextAt}
 use Rattle.json_text.specs.Texts.{text_of, told, or_empty}
 use Rattle.targets.specs.declared.Part.{Part}
@@ -85,7 +85,7 @@ text_read s w l = by (quoted s) refl
 
 -- the text of a part as the code reads it, and where it puts it
 module _ (m : List ℕ) (p : Part) where
-  pub part_read : (d d' : List ℕ) (t : told_text.Option TextAt) (x y : List ℕ) → 1024 ≤ length d → told m d' t ≡ text_at (drop p.at m) d → x ≡ or_empty (text_of m d' t) → y ≡ take p.span.len (drop p.span.start x) → y ≡ part_text m p
+  pub part_read : (d d' : List ℕ) (t : Option TextAt) (x y : List ℕ) → 1024 ≤ length d → told m d' t ≡ text_at (drop p.at m) d → x ≡ or_empty (text_of m d' t) → y ≡ take p.span.len (drop p.span.start x) → y ≡ part_text m p
   part_read d d' t x y l e f g = g ∙ ap (λ z. take p.span.len (drop p.span.start z)) (f ∙ ap (λ z. or_empty z.text) e ∙ text_read (drop p.at m) d l)
 
   pub part_short : length (part_text m p) ≤ 1024

@@ -2,7 +2,7 @@
 use mathlib.Core.Path.{refl, ◌∙◌, ap}
 use lib.ListN.{drop}
 use Rattle.std.proofs.lemmas.Result.{err_from_is_err_and}
-use Rattle.json_text.proofs.Buffer.{begin, at_end_lem, on_bad, on_close, fair, on_over, on_gives}
+use Rattle.json_text.proofs.Buffer.{begin, at_end_lem, on_bad, on_close, on_over, on_gives}
 use native.Mathlib.Omega.{arith}
 use Rattle.json_text.proofs.decode.Goals as goal
 
@@ -22,7 +22,7 @@ returns-in-Close c =
 pub put_out-requires : goal.put_out-requires
 put_out-requires c =
     let g = c.loop-i.invariant.1 in
-    (g.room, omega (arith, c.loop-i.invariant.0, c.requires), fair g (omega arith) (rw c.in-Gives.is at c.in-Some.ensures))
+    (g.room, omega (arith, c.loop-i.invariant.0, c.requires))
 
 pub returns-in_err-len-in-Gives : goal.returns-in_err-len-in-Gives
 returns-in_err-len-in-Gives c =

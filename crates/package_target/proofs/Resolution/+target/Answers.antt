@@ -1,8 +1,9 @@
 -- Each loop goes on with what is left, or ends with the answer of the whole.
-use Rattle.std.proofs.Common.{refl, sym, ◌∙◌, inl, inr, arith}
+use Rattle.std.proofs.Common.{refl, sym, ◌∙◌, inl, inr, arith, length}
 use Rattle.targets.specs.declared.Outcome.TheVariants.{Nothing, NotExportedMatch}
 use Rattle.targets.specs.Contexts.{context_of}
 use Rattle.targets.proofs.Targets.{outcome_is}
+use Rattle.package_target.specs.Conditions.{places}
 use Rattle.package_target.proofs.Loops.{resolve_scalar, text_leaf, array_shallow, object_shallow, array_nil, array_start, object_start, array_end, array_stop, array_on, object_end, object_skip, object_stop, object_on}
 use Rattle.package_target.proofs.Resolution.+target.Goals as goal
 use Rattle.package_target.proofs.Resolution.+target.Goals.{array-else-loop-test, array-then-loop-test+in_default}
@@ -72,7 +73,7 @@ pub object-returns-then-not-is_nothing-clause-result_after : goal.object-returns
 object-returns-then-not-is_nothing-clause-result_after t c q j a h e =
     let turn = c.take_turn in
     sym (object_stop (c.loop-member.invariant.left q j a h e) c.in-Some.ensures.steps
-    c.args.self.settings.now a.conditions turn.ensures.few turn.new.values turn.result turn.ensures.by_index
+    c.args.self.settings.now a.conditions turn.ensures.few (places (length c.args.self.manifest.now) turn.new.values) turn.result turn.ensures.by_index
     c.in-Some-take_turn.is _ c.target-answer.result
     (λ j s. c.target-answer.ensures.result_after q j a s) (sym c.if-not-is_nothing.ensures))
 
@@ -85,7 +86,7 @@ object-loop-member-preserved-in-Some-take_turn t c =
       same = record { work = then_same.work ∙ first.work; path = then_same.path ∙ first.path };
       left = λ q j a h e.
           object_on (c.loop-member.invariant.left q j a h e) c.in-Some.ensures.steps
-          c.args.self.settings.now a.conditions turn.ensures.few turn.new.values turn.result turn.ensures.by_index
+          c.args.self.settings.now a.conditions turn.ensures.few (places (length c.args.self.manifest.now) turn.new.values) turn.result turn.ensures.by_index
           c.in-Some-take_turn.is _ c.target-answer.result
           (λ j s. c.target-answer.ensures.result_after q j a s) (sym c.if-not-is_nothing.ensures);
     }
@@ -97,7 +98,7 @@ object-loop-member-preserved t c =
       same = c.loop-member.invariant.same;
       left = λ q j a h e.
           object_skip (c.loop-member.invariant.left q j a h e) c.in-Some.ensures.steps
-          c.args.self.settings.now a.conditions turn.ensures.few turn.new.values turn.result turn.ensures.by_index
+          c.args.self.settings.now a.conditions turn.ensures.few (places (length c.args.self.manifest.now) turn.new.values) turn.result turn.ensures.by_index
           c.in_default.is;
     }
 
