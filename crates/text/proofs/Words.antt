@@ -12,7 +12,7 @@ use Rattle.std.proofs.lemmas.Cmp.{same_from_slice_cmp_tested}
 use Rattle.std.proofs.Common.{refl, sym, ap, ◌∙◌, ◌+◌, ◌-◌, arith, zero, suc, zero-add}
 use Rattle.std.proofs.Math.Bool.{or-true}
 use Rattle.std.proofs.lemmas.Bool.Decides.{nat_tests}
-use Rattle.definition.specs.Text.{equal, equal_ignoring_case, lower_case, within, smaller, starts_with, ends_with, count, contains, contains_text, before, before_last, overwrite}
+use Rattle.definition.specs.Text.{equal, equal_ignoring_case, lower_case, within, smaller, starts_with, ends_with, contains, contains_text, before, before_last, overwrite}
 use Rattle.laws.specs.TextLaws.{equal_true, equal_refl}
 use Rattle.laws.specs.TextSteps.{equal_lengths, starts_with_short, starts_with_equal, last_at, last_none}
 
@@ -34,15 +34,6 @@ contains_is c (b ∷ s) = rw (contains_is c s)
 pub smaller_is : (a b : List ℕ) → partial_lt (slice_partial_cmp (λ x y. Some (nat_cmp x y))) a b ≡ smaller a b
 unfolding smaller
 smaller_is a b = same_from_slice_cmp_tested nat_cmp is_lt smaller refl (λ _ _. refl) (λ _ _. refl) (λ x y xs ys o h. grind (arith, nat_tests)) a b _ refl
-
--- `filter` and `count`
-count_from : (c : ℕ) (s : List ℕ) (n : ℕ) → fold (λ a x. a + cond (nat_eq x c) 1 0) n s ≡ n + count c s
-unfolding count
-count_from c [] n = omega arith
-count_from c (b ∷ s) n = count_from c s _ ∙ (omega arith)
-
-pub count_is : (c : ℕ) (s : List ℕ) → count_by (λ x. nat_eq x c) s ≡ count c s
-count_is c s = count_from c s 0 ∙ zero-add _
 
 -- `position`: the first byte that is c, or none is
 pub first_is : (c : ℕ) (s : List ℕ) (r : Option ℕ) → MatchOption r ((k : ℕ) → k < length s → get_or s k 0 ≡ c → ⊥) (λ i. (i < length s) × (get_or s i 0 ≡ c) × ((k : ℕ) → k < i → get_or s k 0 ≡ c → ⊥)) → unwrap_or r (length s) ≡ length (before c s)

@@ -55,7 +55,14 @@ pub fn contains_text(s: &[u8], t: &[u8]) -> bool
 pub fn count(s: &[u8], b: u8) -> usize
     ensures { result ≡ count b s.now }
 {
-    s.iter().filter(|x| **x == b).count()
+    // `filter` and `count` were tried, and take nearly twice as long: LLVM counts many bytes at a time only in a loop.
+    let mut n: usize = 0;
+    for x in s {
+        if *x == b {
+            n += 1;
+        }
+    }
+    n
 }
 
 // The place of the first b at or after `at`, or the end.

@@ -198,7 +198,7 @@ fn filled(n: usize) -> bool {
     let mut d = [7u8; 8];
     let mut e = [7u32; 8];
     text::zero_from(&mut d, n);
-    text::zero_from_u32(&mut e, n);
+    text::zero_from(&mut e, n);
     for i in 0..8usize {
         if (d[i] == 7) != (i < n) {
             return false;
