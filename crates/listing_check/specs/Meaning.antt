@@ -1,11 +1,9 @@
 -- What the types and answers of `listing_check` mean.
 use Rattle.std.specs.Prelude.{◌≡◌, Bool, true, false, List, ◌∷◌, ℕ, length, if◌then◌else◌, Result, Ok, Err}
 use Rattle.definition.specs.Text.{Text}
-use Rattle.definition.specs.Listing.{Row, no_directory_manifest, passes30, passes31, passes32}
+use Rattle.definition.specs.Listing.{Row, passes30, passes31, passes32}
 use Rattle.laws.specs.ListingSteps.{row}
-use Rattle.laws.specs.ListingOrder.{Going, in_order, sized, shallow}
-use Rattle.listing_check.specs.declared.Rule.{Rule}
-use Rattle.listing_check.specs.declared.Rule.TheVariants.{Sizes, Depth, Manifests}
+use Rattle.laws.specs.ListingOrder.{Going, in_order}
 use Rattle.refusal.specs.declared.Refusal.{Refusal}
 use Rattle.refusal.specs.declared.Refusal.TheVariants as refused
 
@@ -14,12 +12,6 @@ unfoldable pub verdict : List ℕ → Result (Unit {0}) Refusal
 verdict l =
     if passes30 l then if passes31 l then if passes32 l then Ok tt else Err refused.ManifestDirectory else Err refused.Order
     else Err refused.Sizes
-
--- the rules that each entry keeps by itself
-abbrev pub rule_of : Rule → Row → Bool
-rule_of Sizes = sized
-rule_of Depth = shallow
-rule_of Manifests = no_directory_manifest
 
 -- one step of the pass over paths, order, parents and depth, whatever the entries are
 abbrev pub Stepped : Text → Text → Bool → List ℕ → List ℕ → Bool → Type 0

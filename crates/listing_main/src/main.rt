@@ -16,37 +16,32 @@ fn report(rt: &impl Print, name: &str, got: usize, wanted: usize) -> io::Result<
     }
 }
 
-fn put(l: &mut [u8], at: usize, b: u8) {
-    if at < l.len() {
-        l[at] = b;
-    }
-}
-
-// A number of 32 bits, low byte first.
+// A number of 32 bits, low byte first, as far as there is room.
 fn put_number(l: &mut [u8], at: usize, x: usize)
     requires { at < 1000000 }
 {
-    put(l, at, (x % 256) as u8);
-    put(l, at + 1, (x / 256 % 256) as u8);
-    put(l, at + 2, (x / 65536 % 256) as u8);
-    put(l, at + 3, (x / 16777216 % 256) as u8);
+    put_text(l, at, &((x % 4294967296) as u32).to_le_bytes());
 }
 
-// The text at a place; the place behind it.
+// The text at a place, as far as there is room; the place behind it.
 fn put_text(l: &mut [u8], from: usize, s: &[u8]) -> usize {
     let mut at = from;
     for b in s {
-        if at >= l.len() {
+        let Some(place) = l.get_mut(at) else {
             return at;
-        }
-        l[at] = *b;
+        };
+        *place = *b;
         at += 1;
     }
     at
 }
 
 fn mark(kind: u8, size: usize) -> usize {
-    if kind == b'd' { 4294967295 } else { size }
+    if kind == b'd' {
+        listing::DIRECTORY
+    } else {
+        size
+    }
 }
 
 // The i-th of n entries.
@@ -77,22 +72,21 @@ fn put_sizes(l: &mut [u8], n: usize, end: usize)
     }
 }
 
+// A line's kind, its path, and what stands behind "=".
+fn parts(line: &[u8]) -> Option<(u8, &[u8], &[u8])> {
+    let (kind, rest) = line.split_first()?;
+    let cut = rest.iter().position(|b| *b == b'=').unwrap_or(rest.len());
+    Some((*kind, &rest[..cut], rest.get(cut + 1..).unwrap_or(&[])))
+}
+
 // An entry from its line.
 fn put_line(l: &mut [u8], n: usize, i: usize, at: usize, line: &[u8]) -> usize
     requires { (n < 2000) × (i < 2000) }
 {
-    let cut = text::find(line, b'=', 1);
-    if cut >= line.len() {
-        if line.len() < 1 {
-            return at;
-        }
-        return put_entry(l, n, i, at, line[0], &line[1..], b"");
-    }
-    if cut < 1 {
+    let Some((kind, path, inner)) = parts(line) else {
         return at;
-    }
-    let from = cut + 1;
-    put_entry(l, n, i, at, line[0], &line[1..cut], &line[from..])
+    };
+    put_entry(l, n, i, at, kind, path, inner)
 }
 
 // A listing from its lines; its length.
@@ -102,17 +96,13 @@ fn build(l: &mut [u8], lines: &[u8]) -> usize {
         return 0;
     }
     let mut at = 8 + 8 * n;
-    let mut from = 0;
+    let mut rest = lines;
     for i in 0..n {
-        let end = text::find(lines, b'\n', from);
-        if end < from {
+        let Some(end) = rest.iter().position(|b| *b == b'\n') else {
             return 0;
-        }
-        if end >= lines.len() {
-            return 0;
-        }
-        at = put_line(l, n, i, at, &lines[from..end]);
-        from = end + 1;
+        };
+        at = put_line(l, n, i, at, &rest[..end]);
+        rest = &rest[end + 1..];
     }
     put_sizes(l, n, at);
     at
@@ -120,10 +110,10 @@ fn build(l: &mut [u8], lines: &[u8]) -> usize {
 
 // The number of the check, 0 where it accepts.
 fn number_of(l: &[u8], end: usize) -> u8 {
-    if end > l.len() {
+    let Some(listing) = l.get(..end) else {
         return 1;
-    }
-    match listing_check::check(&l[0..end]) {
+    };
+    match listing_check::check(listing) {
         Ok(()) => 0,
         Err(refusal) => refusal.number(),
     }
@@ -135,25 +125,25 @@ fn verdict(lines: &[u8]) -> u8 {
     number_of(&l, end)
 }
 
-// Cases, each ended by ";": how many have the number, up to the first that has not.
-fn cases(table: &[u8], wanted: u8) -> usize {
+// How many pieces of a table, each with its end byte behind it, hold, up to the first that does not.
+fn passed<F: Fn(&[u8]) -> bool>(table: &[u8], end: u8, holds: F) -> usize
+    requires { F.IsAlwaysCallable holds }
+{
     let mut n: usize = 0;
-    let mut from: usize = 0;
-    while from < table.len() {
-        let end = text::find(table, b';', from);
-        if end < from {
+    let mut rest = table;
+    while let Some(at) = rest.iter().position(|b| *b == end) {
+        if !holds(&rest[..at]) {
             return n;
         }
-        if end >= table.len() {
-            return n;
-        }
-        if verdict(&table[from..end]) != wanted {
-            return n;
-        }
-        from = end + 1;
         n += 1;
+        rest = &rest[at + 1..];
     }
     n
+}
+
+// Cases, each ended by ";": how many have the number, up to the first that has not.
+fn cases(table: &[u8], wanted: u8) -> usize {
+    passed(table, b';', |lines| verdict(lines) == wanted)
 }
 
 fn cut_off(l: &[u8], end: usize) -> usize {
@@ -251,103 +241,59 @@ fn whole(k: usize) -> u8
 
 // One line of a table: 0 and a path that is absent, 1 and a directory's, 2 and a file's with "=" and its contents.
 fn has(l: &[u8], kind: u8, path: &[u8], inner: &[u8]) -> bool {
-    let f = listing::search(l, path);
-    match f {
+    match listing::search(l, path) {
         Found::Absent => kind == b'0',
         Found::Directory => kind == b'1',
-        Found::File { start: a, end: e } => {
-            if kind != b'2' {
-                return false;
-            }
-            text::equal(listing::contents(l, a, e), inner)
+        Found::File { start, end } => {
+            kind == b'2' && text::equal(listing::contents(l, start, end), inner)
         }
     }
 }
 
 fn has_line(l: &[u8], line: &[u8]) -> bool {
-    let cut = text::find(line, b'=', 1);
-    if cut >= line.len() {
-        if line.len() < 1 {
-            return false;
-        }
-        return has(l, line[0], &line[1..], b"");
+    match parts(line) {
+        Some((kind, path, inner)) => has(l, kind, path, inner),
+        None => false,
     }
-    if cut < 1 {
-        return false;
-    }
-    let from = cut + 1;
-    has(l, line[0], &line[1..cut], &line[from..])
 }
 
 fn searches(l: &[u8], table: &[u8]) -> usize {
-    let mut n: usize = 0;
-    let mut from: usize = 0;
-    while from < table.len() {
-        let end = text::find(table, b'\n', from);
-        if end < from {
-            return n;
-        }
-        if end >= table.len() {
-            return n;
-        }
-        if !has_line(l, &table[from..end]) {
-            return n;
-        }
-        from = end + 1;
-        n += 1;
-    }
-    n
+    passed(table, b'\n', |line| has_line(l, line))
 }
 
 fn searches_of(lines: &[u8], less: usize, table: &[u8]) -> usize {
     let mut l = [0u8; 4096];
     let end = build(&mut l, lines);
-    if end > 4096 {
-        return 0;
+    match l.get(..end.saturating_sub(less)) {
+        Some(listing) => searches(listing, table),
+        None => 0,
     }
-    if less > end {
-        return 0;
-    }
-    let short = end - less;
-    searches(&l[0..short], table)
 }
 
 // Whether a file's contents stand there.
 fn stands(lines: &[u8], path: &[u8], start: usize, end: usize) -> bool {
     let mut l = [0u8; 4096];
     let last = build(&mut l, lines);
-    if last > 4096 {
-        return false;
+    match l.get(..last) {
+        Some(listing) => listing::search(listing, path) == Found::File { start, end },
+        None => false,
     }
-    let f = listing::search(&l[0..last], path);
-    match f {
-        Found::Absent => false,
-        Found::Directory => false,
-        Found::File { start: a, end: e } => {
-            if a != start {
-                return false;
-            }
-            e == end
-        }
-    }
+}
+
+// How many tests held, up to the first that did not.
+fn held(tests: &[bool]) -> usize {
+    tests.iter().take_while(|test| **test).count()
 }
 
 // Two files with contents between two without.
 fn places() -> usize {
     let lines = b"d/\nf/a\nf/b=xy\nf/c=z\nf/d\n";
-    if !stands(lines, b"/a", 51, 51) {
-        return 0;
-    }
-    if !stands(lines, b"/b", 53, 55) {
-        return 1;
-    }
-    if !stands(lines, b"/c", 57, 58) {
-        return 2;
-    }
-    if !stands(lines, b"/d", 60, 60) {
-        return 3;
-    }
-    4
+    held(&[
+        stands(lines, b"/a", 51, 51),
+        stands(lines, b"/b", 53, 55),
+        stands(lines, b"/c", 57, 58),
+        stands(lines, b"/d", 60, 60),
+    ])
 }
 
 // A good listing with another number at one place; one byte more or less at its end.
@@ -357,81 +303,42 @@ fn altered(at: usize, x: usize, more: usize) -> u8
     let mut l = [0u8; 4096];
     let end = build(&mut l, b"d/\nd/a\nf/a/package.json={}\n");
     put_number(&mut l, at, x);
-    if end > 1000 {
-        return 1;
-    }
-    if end < 1 {
+    if !(1..=1000).contains(&end) {
         return 1;
     }
     number_of(&l, end + more - 1)
 }
 
 fn sizes() -> usize {
-    if altered(0, 3, 1) != 0 {
-        return 0;
-    }
-    // the count: none, one more, one less, the most that 32 bits hold
-    if altered(0, 0, 1) != 30 {
-        return 1;
-    }
-    if altered(0, 4, 1) != 30 {
-        return 2;
-    }
-    if altered(0, 2, 1) != 30 {
-        return 3;
-    }
-    if altered(0, 4294967295, 1) != 30 {
-        return 4;
-    }
-    // the text length, a path length, a contents length, a directory that becomes a file
-    if altered(4, 19, 1) != 30 {
-        return 5;
-    }
-    if altered(8, 2, 1) != 30 {
-        return 6;
-    }
-    if altered(28, 1, 1) != 30 {
-        return 7;
-    }
-    if altered(24, 1, 1) != 30 {
-        return 8;
-    }
-    // a byte more, a byte less
-    if altered(0, 3, 2) != 30 {
-        return 9;
-    }
-    if altered(0, 3, 0) != 30 {
-        return 10;
-    }
-    11
+    held(&[
+        altered(0, 3, 1) == 0,
+        // the count: none, one more, one less, the most that 32 bits hold
+        altered(0, 0, 1) == 30,
+        altered(0, 4, 1) == 30,
+        altered(0, 2, 1) == 30,
+        altered(0, 4294967295, 1) == 30,
+        // the text length, a path length, a contents length, a directory that becomes a file
+        altered(4, 19, 1) == 30,
+        altered(8, 2, 1) == 30,
+        altered(28, 1, 1) == 30,
+        altered(24, 1, 1) == 30,
+        // a byte more, a byte less
+        altered(0, 3, 2) == 30,
+        altered(0, 3, 0) == 30,
+    ])
 }
 
 fn limits() -> usize {
-    if long_path(1024) != 0 {
-        return 0;
-    }
-    if long_path(1025) != 30 {
-        return 1;
-    }
-    if nested(32) != 0 {
-        return 2;
-    }
-    if nested(33) != 30 {
-        return 3;
-    }
-    if many(1024) != 0 {
-        return 4;
-    }
-    if many(1025) != 30 {
-        return 5;
-    }
-    if whole(65536) != 0 {
-        return 6;
-    }
-    if whole(65537) != 30 {
-        return 7;
-    }
-    8
+    held(&[
+        long_path(1024) == 0,
+        long_path(1025) == 30,
+        nested(32) == 0,
+        nested(33) == 30,
+        many(1024) == 0,
+        many(1025) == 30,
+        whole(65536) == 0,
+        whole(65537) == 30,
+    ])
 }
 
 fn main(rt: HostRuntime) -> io::Result<()> {

@@ -6,10 +6,6 @@ use settings::Kind;
 use std::io;
 use std::io::Write;
 
-fn wide(b: u8) -> usize {
-    b as usize
-}
-
 // The group's name, and how many of its rows are as expected; or the number of the last that is.
 fn report(rt: &impl Print, name: &str, got: usize, rows: usize) -> io::Result<()> {
     if got == rows {
@@ -22,89 +18,61 @@ fn report(rt: &impl Print, name: &str, got: usize, rows: usize) -> io::Result<()
 // A row: a length, and settings of that length. All are accepted, or none is.
 fn check_rows(rows: &[u8], good: bool) -> usize {
     let mut n: usize = 0;
-    let mut at = 0;
-    while at < rows.len() {
-        let start = at + 1;
-        let size = wide(rows[at]);
-        if size > rows.len() - start {
+    let mut rest = rows;
+    while let [size, tail @ ..] = rest {
+        let Some((row, after)) = tail.split_at_checked(usize::from(*size)) else {
             return n;
-        }
-        let end = start + size;
-        if settings::check(&rows[start..end]) != good {
+        };
+        if settings::check(row) != good {
             return n;
         }
         n += 1;
-        at = end;
+        rest = after;
     }
     n
 }
 
 fn kind_of(k: u8) -> Kind {
-    if k == 0 {
-        return Kind::Conditions;
+    match k {
+        0 => Kind::Conditions,
+        1 => Kind::Extensions,
+        2 => Kind::MainFields,
+        3 => Kind::MainFiles,
+        4 => Kind::ExportsFields,
+        _ => Kind::ImportsFields,
     }
-    if k == 1 {
-        return Kind::Extensions;
-    }
-    if k == 2 {
-        return Kind::MainFields;
-    }
-    if k == 3 {
-        return Kind::MainFiles;
-    }
-    if k == 4 {
-        return Kind::ExportsFields;
-    }
-    Kind::ImportsFields
 }
 
 // A row: a kind, a place, a length, and the text of the kind at that place.
 fn text_rows(s: &[u8], rows: &[u8]) -> usize {
     let mut n: usize = 0;
-    let mut at: usize = 0;
-    while at < rows.len() {
-        if rows.len() - at < 3 {
+    let mut rest = rows;
+    while let [kind, place, size, tail @ ..] = rest {
+        let Some((wanted, after)) = tail.split_at_checked(usize::from(*size)) else {
             return n;
-        }
-        let start = at + 3;
-        let size = wide(rows[at + 2]);
-        if size > rows.len() - start {
-            return n;
-        }
-        let end = start + size;
-        let got = settings::text(s, kind_of(rows[at]), wide(rows[at + 1]));
-        if !text::equal(got, &rows[start..end]) {
+        };
+        if settings::text(s, kind_of(*kind), usize::from(*place)) != wanted {
             return n;
         }
         n += 1;
-        at = end;
+        rest = after;
     }
     n
 }
 
 // A row: a kind, and how many texts it has.
 fn count_rows(s: &[u8], rows: &[u8]) -> usize {
-    let mut n: usize = 0;
-    let mut at: usize = 0;
-    while at < rows.len() {
-        if rows.len() - at < 2 {
-            return n;
-        }
-        if settings::count(s, kind_of(rows[at])) != wide(rows[at + 1]) {
-            return n;
-        }
-        n += 1;
-        at += 2;
-    }
-    n
+    rows.chunks_exact(2)
+        .take_while(|row| settings::count(s, kind_of(row[0])) == usize::from(row[1]))
+        .count()
 }
 
 // The texts of a kind on one line.
-fn print_texts(rt: &impl Print, name: &str, s: &[u8], k: u8) -> io::Result<()> {
+fn print_texts(rt: &impl Print, name: &str, s: &[u8], kind: Kind) -> io::Result<()> {
     print!(rt; "{name}")?;
-    for i in 0..settings::count(s, kind_of(k)) {
+    for text in settings::texts(s, kind) {
         print!(rt; " ")?;
-        io::writer(rt).write_all(settings::text(s, kind_of(k), i))?;
+        io::writer(rt).write_all(text)?;
     }
     println!(rt)
 }
@@ -248,10 +216,10 @@ fn main(rt: HostRuntime) -> io::Result<()> {
     checks(&rt)?;
     texts(&rt)?;
     let s = b"\x01\x01\x01\x01\x01\x01\x06\x03\x04\x05\x07\x07import.jsmainindexexportsimports";
-    print_texts(&rt, "conditions:", s, 0)?;
-    print_texts(&rt, "extensions:", s, 1)?;
-    print_texts(&rt, "main fields:", s, 2)?;
-    print_texts(&rt, "main files:", s, 3)?;
-    print_texts(&rt, "exports fields:", s, 4)?;
-    print_texts(&rt, "imports field:", s, 5)
+    print_texts(&rt, "conditions:", s, Kind::Conditions)?;
+    print_texts(&rt, "extensions:", s, Kind::Extensions)?;
+    print_texts(&rt, "main fields:", s, Kind::MainFields)?;
+    print_texts(&rt, "main files:", s, Kind::MainFiles)?;
+    print_texts(&rt, "exports fields:", s, Kind::ExportsFields)?;
+    print_texts(&rt, "imports field:", s, Kind::ImportsFields)
 }
