@@ -227,11 +227,9 @@ fn report<T, F: Fn(&T) -> bool>(
 ) -> io::Result<()>
     requires { F.IsAlwaysCallable is_expected }
 {
-    let got = rows.iter().take_while(|row| is_expected(*row)).count();
-    if got == rows.len() {
-        println!(rt; "{name}: {got} as expected")
-    } else {
-        println!(rt; "{name}: not as expected after row {got}")
+    match rows.iter().position(|row| !is_expected(row)) {
+        None => println!(rt; "{name}: {} as expected", rows.len()),
+        Some(n) => println!(rt; "{name}: not as expected after row {n}"),
     }
 }
 
