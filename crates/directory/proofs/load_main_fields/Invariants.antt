@@ -14,5 +14,5 @@ abbrev pub invariant-loop-name : goal.invariant-loop-name
 invariant-loop-name l =
     Same l.initial.tape l.tape × (length l.work ≡ length l.initial.work)
     × ((j : Json) → Stands 16 (drop l.package.root l.package.manifest.now) j
-        → Left (seen_in l.job) (main_field (settings_in l.job) (place_of l.place) j) (texts_of l.job.settings.now 2)
-            (tape_of l.initial.tape) (texts_left l.name-iterator) (tape_of l.tape))
+    → Left (seen_in l.job) (main_field (settings_in l.job) (place_of l.place) j) (texts_of l.job.settings.now 2)
+    (tape_of l.initial.tape) (texts_left l.name-iterator) (tape_of l.tape))
