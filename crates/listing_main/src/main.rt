@@ -2,7 +2,6 @@
 #![tactic(auto)]
 
 use listing::Found;
-use listing_check::Checked;
 use refusal::Refusal;
 use std::alloc::{AllocError, Global};
 use std::io;
@@ -432,15 +431,6 @@ fn listing_of(alloc: Global, entries: &[Entry]) -> Result<Vec<u8>, AllocError> {
     writer.written(alloc)
 }
 
-fn check(listing: &[u8]) -> Result<(), Refusal> {
-    match listing_check::check(listing) {
-        Checked::Accepted => Ok(()),
-        Checked::Refused(30) => Err(Refusal::Sizes),
-        Checked::Refused(31) => Err(Refusal::Order),
-        Checked::Refused(_) => Err(Refusal::ManifestDirectory),
-    }
-}
-
 // The group's name, and how many of its rows are as expected; or after how many one was not.
 fn report<T, F: Fn(&T) -> Result<bool, AllocError>>(
     rt: &impl Print,
@@ -469,7 +459,7 @@ fn report_checks(
         rt,
         name,
         rows,
-        |entries| Ok(check(&listing_of(alloc, entries)?) == wanted),
+        |entries| Ok(listing_check::check(&listing_of(alloc, entries)?) == wanted),
     )
 }
 
@@ -477,9 +467,12 @@ fn report_checks(
 fn report_cuts(rt: &(impl Print + AllocGlobal)) -> io::Result<()> {
     let listing = listing_of(rt.alloc(), PRINTED)?;
     let lengths = (0..listing.len()).collect::<Vec<usize>>(rt.alloc())?;
-    let whole = check(&listing);
+    let whole = listing_check::check(&listing);
     report(rt, "cut off", &lengths, |n| {
-        Ok(whole == Ok(()) && check(text::part(&listing, 0, *n)) == Err(Refusal::Sizes))
+        Ok(
+            whole == Ok(())
+                && listing_check::check(text::part(&listing, 0, *n)) == Err(Refusal::Sizes),
+        )
     })
 }
 
@@ -593,13 +586,13 @@ fn checks(rt: &(impl Print + AllocGlobal)) -> io::Result<()> {
         rt,
         "sizes",
         CHANGES,
-        |(change, wanted)| Ok(check(&altered(alloc, change)?) == *wanted),
+        |(change, wanted)| Ok(listing_check::check(&altered(alloc, change)?) == *wanted),
     )?;
     report(
         rt,
         "limits",
         LIMITS,
-        |(size, wanted)| Ok(check(&sized(alloc, size)?) == *wanted),
+        |(size, wanted)| Ok(listing_check::check(&sized(alloc, size)?) == *wanted),
     )?;
     report_checks(rt, "accepted", ACCEPTED, Ok(()))?;
     report_checks(rt, "30", BAD_SIZES, Err(Refusal::Sizes))?;

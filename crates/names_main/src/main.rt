@@ -2,7 +2,6 @@
 // each group how many are as expected.
 #![tactic(auto)]
 
-use package_name::Stripped;
 use path::PathBuf;
 use specifier::Specifier;
 use std::io;
@@ -298,10 +297,8 @@ fn is_dotted(subpath: &[u8], wanted: &[u8]) -> bool {
 }
 
 fn stripped<'a>(s: &'a [u8], name: &[u8]) -> Option<&'a [u8]> {
-    match package_name::strip_package_name(s, name) {
-        Stripped::At(i) => Some(specifier::tail(s, i)),
-        Stripped::Nothing => None,
-    }
+    let at = package_name::strip_package_name(s, name)?;
+    Some(specifier::tail(s, at))
 }
 
 fn is_climb(specifier: &[u8], wanted: &[u8], is_up: bool) -> bool {

@@ -13,7 +13,7 @@
 #![tactic(auto)]
 
 use anyhow::{Context, Result, bail};
-use package_json::{Cursor, Kind};
+use package_json::Kind;
 use std::alloc::{AllocError, Global};
 
 // The bytes that a field stands for.
@@ -48,24 +48,17 @@ fn has_no_start(text: &[u8]) -> bool {
         && (0..text.len()).all(|n| package_json::package_json_check(&text[..n]) == 7)
 }
 
-fn place(cursor: Cursor) -> Option<usize> {
-    match cursor {
-        Cursor::At(i) => Some(i),
-        Cursor::Nothing => None,
-    }
-}
-
 fn member_named(manifest: &[u8], name: &str) -> Option<usize> {
-    place(package_json::get(manifest, 0, name.as_bytes()))
+    package_json::get(manifest, 0, name.as_bytes())
 }
 
 fn kind_letter(manifest: &[u8], at: usize) -> &str {
     match package_json::kind_at(manifest, at) {
-        Kind::Scalar => "0",
-        Kind::String => "s",
-        Kind::Array => "a",
-        Kind::Object => "o",
-        Kind::Nothing => "-",
+        Some(Kind::Scalar) => "0",
+        Some(Kind::String) => "s",
+        Some(Kind::Array) => "a",
+        Some(Kind::Object) => "o",
+        None => "-",
     }
 }
 
@@ -104,12 +97,12 @@ fn is_expected(alloc: Global, row: &str) -> Result<bool> {
         }
         ["name", text, i, manifest] => {
             let manifest = expanded(alloc, manifest)?;
-            let member = place(package_json::member(&manifest, 0, i.parse()?));
+            let member = package_json::member(&manifest, 0, i.parse()?);
             has_text(&manifest, member, &expanded(alloc, text)?)
         }
         ["element", text, i, manifest] => {
             let manifest = expanded(alloc, manifest)?;
-            let element = place(package_json::element(&manifest, 0, i.parse()?));
+            let element = package_json::element(&manifest, 0, i.parse()?);
             has_text(&manifest, element, &expanded(alloc, text)?)
         }
         _ => bail!("nothing is asked"),

@@ -265,7 +265,7 @@ fn is_filled(from: usize) -> bool {
     let mut bytes = [7u8; 8];
     let mut words = [7u32; 8];
     text::zero_from(&mut bytes, from);
-    text::zero_from_u32(&mut words, from);
+    text::zero_from(&mut words, from);
     (0..8usize).all(|i| {
         let wanted = if i < from { 7 } else { 0 };
         bytes[i] == wanted && words[i] == u32::from(wanted)
