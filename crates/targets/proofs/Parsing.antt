@@ -17,7 +17,7 @@ use Rattle.definition.specs.Exports.{Request, with_query_fragment, target_path, 
 use Rattle.path.specs.Meaning.{path_at}
 use Rattle.specifier.specs.declared.Specifier as answer
 use Rattle.specifier.specs.Meaning.{parts, no_path, parts_of, path_text, meant}
-use Rattle.specifier.proofs.Parsed.{body_take, body_inside}
+use Rattle.specifier.proofs.Parsed.{body_take}
 use Rattle.targets.specs.declared.Part.{Part}
 use Rattle.targets.specs.declared.Context.{Context}
 use Rattle.targets.specs.declared.Outcome.TheVariants.{Empty, InvalidTarget}
@@ -25,6 +25,9 @@ use Rattle.targets.specs.Contexts.{string_at, part_text, Inside, context_of}
 use Rattle.targets.specs.Answers.{outcome_in, resolved, path_target}
 use Rattle.targets.proofs.Targets.{limited_same, path_text_lem}
 use Rattle.targets.proofs.Contexts.{query_part, query_inside, fragment_part, fragment_inside}
+
+body_inside : (s : List ℕ) → length (body s) ≤ length s
+body_inside s = omega (arith, ap length (body_take s), length-take (length (body s)) s)
 
 -- a path of bytes is at most twice as long as its specifier
 abbrev pub Bytes : List ℕ → Type 0
