@@ -1,6 +1,9 @@
--- What an answer means: 01's number and the lengths of its texts, and the case of an ending.
-use Rattle.std.specs.Prelude.{List, [], ◌∷◌, ℕ, eqb, if◌then◌else◌}
+-- What an answer means: 01's number and the lengths of its texts, and the answer of an ending.
+use Rattle.std.specs.Prelude.{List, [], ◌∷◌, ℕ}
+use Rattle.refusal.specs.Numbers as refusals
 use Rattle.consults.specs.declared.Ending.{Ending}
+use Rattle.consults.specs.declared.Case.{Case}
+use Rattle.consults.specs.declared.Case.TheVariants as InCase
 use Rattle.answer.specs.declared.Answer.{Answer}
 use Rattle.answer.specs.declared.Answer.TheVariants.{Found, NotFound, Empty, InvalidPackageTarget, PackagePathNotExported, InvalidPackageConfig, InvalidPackageConfigDirectory, Json, InvalidModuleSpecifier, PackageImportNotDefined, Recursion, Refused}
 
@@ -16,7 +19,7 @@ number_of (Json m) = 7
 number_of (InvalidModuleSpecifier s m) = 50
 number_of (PackageImportNotDefined s m) = 51
 number_of Recursion = 56
-number_of (Refused n) = n
+number_of (Refused r) = refusals.number_of r
 
 abbrev pub lengths_of : Answer → List ℕ
 lengths_of (Found p q f) = p ∷ q ∷ f ∷ []
@@ -30,20 +33,23 @@ lengths_of (Json m) = m ∷ []
 lengths_of (InvalidModuleSpecifier s m) = s ∷ m ∷ []
 lengths_of (PackageImportNotDefined s m) = s ∷ m ∷ []
 lengths_of Recursion = []
-lengths_of (Refused n) = []
+lengths_of (Refused r) = []
 
--- the case of an ending
+-- the answer of a case with three lengths
+abbrev pub answer_in : Case → (first second third : ℕ) → Answer
+answer_in InCase.Found a b c = Found a b c
+answer_in InCase.NotFound a b c = NotFound a
+answer_in InCase.Empty a b c = Empty a
+answer_in InCase.InvalidPackageTarget a b c = InvalidPackageTarget a b c
+answer_in InCase.PackagePathNotExported a b c = PackagePathNotExported a b
+answer_in InCase.InvalidPackageConfig a b c = InvalidPackageConfig a
+answer_in InCase.InvalidPackageConfigDirectory a b c = InvalidPackageConfigDirectory a
+answer_in InCase.Json a b c = Json a
+answer_in InCase.InvalidModuleSpecifier a b c = InvalidModuleSpecifier a b
+answer_in InCase.PackageImportNotDefined a b c = PackageImportNotDefined a b
+answer_in InCase.Recursion a b c = Recursion
+answer_in (InCase.Refused r) a b c = Refused r
+
+-- the answer of an ending
 abbrev pub answer_by : Ending → Answer
-answer_by x =
-    if eqb x.number 0 then Found x.first x.second x.third else
-    if eqb x.number 1 then NotFound x.first else
-    if eqb x.number 2 then Empty x.first else
-    if eqb x.number 3 then InvalidPackageTarget x.first x.second x.third else
-    if eqb x.number 4 then PackagePathNotExported x.first x.second else
-    if eqb x.number 5 then InvalidPackageConfig x.first else
-    if eqb x.number 6 then InvalidPackageConfigDirectory x.first else
-    if eqb x.number 7 then Json x.first else
-    if eqb x.number 50 then InvalidModuleSpecifier x.first x.second else
-    if eqb x.number 51 then PackageImportNotDefined x.first x.second else
-    if eqb x.number 56 then Recursion else
-    Refused x.number
+answer_by x = answer_in x.case x.first x.second x.third

@@ -1,14 +1,12 @@
 -- What an ending and a list take of the lent buffers, and the refusals behind the lookup.
-use Rattle.std.specs.Prelude.{Bool, not, ◌&&◌, ◌||◌, ℕ, ◌+◌, ◌*◌, ◌≤◌, ◌<◌, eqb, ltb, leb, if◌then◌else◌}
-use Rattle.listing_check.specs.declared.Checked.{Checked}
-use Rattle.listing_check.specs.declared.Checked.TheVariants.{Accepted, Refused}
+use Rattle.std.specs.Prelude.{Bool, not, ◌&&◌, ℕ, ◌+◌, ◌*◌, ◌≤◌, ◌<◌, ltb, leb, Option, Some, None, Result, Ok, Err, if◌then◌else◌}
+use Rattle.refusal.specs.declared.Refusal.{Refusal}
+use Rattle.refusal.specs.declared.Refusal.TheVariants.{ResultTooShort, ListTooShort}
 use Rattle.consults.specs.Tape.{most}
+use Rattle.consults.specs.declared.Case.{Case}
+use Rattle.consults.specs.declared.Case.TheVariants.{Found, NotFound, Empty, InvalidPackageTarget, PackagePathNotExported, InvalidPackageConfig, InvalidPackageConfigDirectory, Json, InvalidModuleSpecifier, PackageImportNotDefined, Recursion, Refused}
 use Rattle.consults.specs.declared.Ending.{Ending}
 use Rattle.consults.specs.declared.Mark.{Mark}
-
--- the numbers of answers; every other is a refusal's
-abbrev pub is_answer_number : ℕ → Bool
-is_answer_number n = eqb n 50 || (eqb n 51 || (eqb n 56 || leb n 7))
 
 -- an ending's texts, and the list numbers, have so many bytes and numbers
 abbrev pub text_length : Ending → ℕ
@@ -31,10 +29,27 @@ pub record Room (x : Ending) (k : Mark) (r n t : ℕ) : Type 0 where
   pub size : k.size < most
   pub list : k.size ≤ t
 
--- the refusals: the lookup's own, then 20, then 21
-abbrev pub checked_by : Ending → Mark → ℕ → ℕ → ℕ → Checked
-checked_by x k r n t =
-    if not (is_answer_number x.number) then Refused x.number else
-    if not (texts_fit x r) then Refused 20 else
-    if not (list_fits k n t) then Refused 21 else
-    Accepted
+-- the refusals behind the lookup: its own, which a case holds, then 20, then 21
+abbrev pub refusal_in : Case → Option Refusal
+refusal_in (Refused r) = Some r
+refusal_in Found = None
+refusal_in NotFound = None
+refusal_in Empty = None
+refusal_in InvalidPackageTarget = None
+refusal_in PackagePathNotExported = None
+refusal_in InvalidPackageConfig = None
+refusal_in InvalidPackageConfigDirectory = None
+refusal_in Json = None
+refusal_in InvalidModuleSpecifier = None
+refusal_in PackageImportNotDefined = None
+refusal_in Recursion = None
+
+abbrev pub unless_own : Option Refusal → Result (Unit {0}) Refusal → Result (Unit {0}) Refusal
+unless_own (Some r) rest = Err r
+unless_own None rest = rest
+
+abbrev pub checked_by : Ending → Mark → ℕ → ℕ → ℕ → Result (Unit {0}) Refusal
+checked_by x k r n t = unless_own (refusal_in x.case) (
+    if not (texts_fit x r) then Err ResultTooShort else
+    if not (list_fits k n t) then Err ListTooShort else
+    Ok tt)

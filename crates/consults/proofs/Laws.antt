@@ -1,12 +1,12 @@
 -- Facts that several proofs of this crate share.
-use mathlib.Core.Path.{◌≡◌, refl, sym, ◌∙◌}
+use mathlib.Core.Path.{◌≡◌, refl}
 use mathlib.Core.Bool.{Bool, true, false}
-use mathlib.Core.List.{[], ◌∷◌, ◌++◌}
+use mathlib.Core.List.{[], ◌∷◌, ◌++◌, append_assoc}
 use Prim.Native.Nat.{ℕ, suc, ◌+◌, ◌≤◌, ◌<◌}
 use native.Mathlib.Omega.{arith}
 use borrow.Author.Tests.{ltb-true, ltb-false}
 use lib.Dec.{ltb}
-use lib.ListN.{length, set}
+use lib.ListN.{length, set, length-append}
 use Rattle.definition.specs.Text.{Text, overwrite}
 use Rattle.laws.specs.TextSteps.{overwrite_here, overwrite_nil, overwrite_past}
 
@@ -25,10 +25,10 @@ overwrite_append at (x ∷ a) b d = go (ltb at (length d)) refl (overwrite_appen
         let h : length d ≤ at = ltb-false _ _ e in
         rw (overwrite_past at (x ∷ a) d h, overwrite_past at (x ∷ (a ++ b)) d h) (overwrite_past (at + suc (length a)) b d (omega arith))
 
--- what stands once a text was put at a place: behind it, at n, the next one goes, or there is no room for another
-module _ (at n : ℕ) (a b d e : Text) (k : n ≡ at + length a) (h : e ≡ overwrite at a d) where
-  pub overwrite_next : overwrite n b e ≡ overwrite at (a ++ b) d
-  overwrite_next = rw (h, k) (overwrite_append at a b d)
-
-  pub overwrite_full : length e ≤ n → e ≡ overwrite at (a ++ b) d
-  overwrite_full z = sym (overwrite_past n b e z) ∙ overwrite_next
+-- three texts, one behind the other
+pub overwrite_three : (a b c d : Text) → overwrite (length a + length b) c (overwrite (length a) b (overwrite 0 a d)) ≡ overwrite 0 (a ++ (b ++ c)) d
+overwrite_three a b c d =
+    let z : 0 + length a ≡ length a = omega arith in
+    let two : overwrite (length a) b (overwrite 0 a d) ≡ overwrite 0 (a ++ b) d = rw z at (overwrite_append 0 a b d) in
+    let k : 0 + length (a ++ b) ≡ length a + length b = omega (arith, length-append a b) in
+    rw (two, ← append_assoc a b c) (rw k at (overwrite_append 0 (a ++ b) c d))

@@ -1,36 +1,29 @@
--- The code's `Way` against the definition's steps: what a `let .. else` tells. Assumes nothing.
+-- A routine and what follows it: one that came back as a ControlFlow, and a path that was built. Assumes nothing.
 use mathlib.Core.Path.{◌≡◌, refl, ap, fun_ext}
-use native.Mathlib.Omega.{arith}
-use denote.Enum.Declared.{tag_of, declared}
-use Rattle.definition.specs.Ask.{Listing, Step, go, stop, Ask, ret, end, ask, read, ◌>>=◌}
-use Rattle.definition.specs.Manifest.{End}
+use Rattle.std.specs.declared.ops.ControlFlow.{ControlFlow}
+use Rattle.std.specs.declared.ops.ControlFlow.TheVariants.{Continue, Break}
+use Rattle.definition.specs.Ask.{Listing, Step, stop, Ask, ret, end, ask, read, ◌>>=◌}
+use mathlib.Core.List.{[]}
+use Rattle.definition.specs.Text.{Text}
+use Rattle.definition.specs.Path.{Built, built, too_long}
+use Rattle.definition.specs.Manifest.{End, path_too_long}
+use Rattle.definition.specs.Walk.{Look, made}
+use Rattle.refusal.specs.declared.Refusal.TheVariants.{PathTooLong}
+use Rattle.consults.specs.declared.Case.TheVariants.{Refused}
+use Rattle.consults.specs.Ends.{refusal_of}
+use Rattle.consults.proofs.Steps.{done_refuse}
 use Rattle.consults.specs.declared.Ending.{Ending}
-use Rattle.consults.specs.declared.Way.{Way}
-use Rattle.consults.specs.declared.Way.TheVariants.{Next, Stopped}
-use Rattle.consults.specs.Meaning.{step_of}
-use Rattle.consults.specs.Tape.{Tape, Done, done_bind, done_stop}
-use Rattle.consults.specs.contracts.Way
+use Rattle.consults.specs.Meaning.{step_by, ended_as, Sees}
+use Rattle.consults.specs.Tape.{Tape, Done, done_ret, done_bind, done_stop}
 
--- a way that is not `Next` ends the lookup, and `Next` does not
-pub ended : (w : Way) → tag_of (declared Way.enum) w ≡ 1 → (x : Ending) × (step_of w ≡ stop x)
-ended Next h = absurd (omega arith)
-ended (Stopped n) h = (n, refl)
+module _ {M A B C : Type 0} {L : Listing M} {t : Ask End M B} (k : A → B) (r : ControlFlow Ending A) (f : B → Ask End M C) {s s₁ : Tape} (d : Done L t s s₁ (step_by k r)) where
+  -- the routine came back
+  pub went_on : {a : A} {s₂ : Tape} {q : Step Ending C} → r ≡ Continue a → Done L (f (k a)) s₁ s₂ q → Done L (t >>= f) s s₂ q
+  went_on e g = done_bind f (rw e at d) g
 
-pub onward : (w : Way) → w ≡ Next → step_of w ≡ go tt
-onward w e = ap step_of e
-
--- a routine and what follows it: the routine ended the lookup, or it came back
-module _ {M B : Type 0} {L : Listing M} {t : Ask End M (Unit {0})} {s s₁ : Tape} (w : Way) (f : Unit {0} → Ask End M B) (d : Done L t s s₁ (step_of w)) where
-  pub way_ended : tag_of (declared Way.enum) w ≡ 1 → (x : Ending) × ((step_of w ≡ stop x) × Done L (t >>= f) s s₁ (stop x))
-  way_ended h = let x = ended w h in (x.0, (x.1, done_stop f (rw x.1 at d)))
-
-  pub way_onward : {s₂ : Tape} {r : Step Ending B} → w ≡ Next → Done L (f tt) s₁ s₂ r → Done L (t >>= f) s s₂ r
-  way_onward e g = done_bind f (rw (onward w e) at d) g
-
--- the same, where what follows is a step of the same kind
-module _ {M : Type 0} {L : Listing M} {t : Ask End M (Unit {0})} {s s₁ : Tape} (w : Way) (f : Unit {0} → Ask End M (Unit {0})) (d : Done L t s s₁ (step_of w)) where
-  pub way_passed : tag_of (declared Way.enum) w ≡ 1 → Done L (t >>= f) s s₁ (step_of w)
-  way_passed h = let x = way_ended w f d h in rw x.1.0 x.1.1
+  -- it ended the lookup
+  pub came_to_end : {x : Ending} → r ≡ Break x → Done L (t >>= f) s s₁ (stop x)
+  came_to_end e = done_stop f (rw e at d)
 
 -- one routine after two others
 pub bind_bind : {E M A B C : Type 0} (m : Ask E M A) (f : A → Ask E M B) (g : B → Ask E M C) → (m >>= f) >>= g ≡ m >>= λ x. f x >>= g
@@ -39,3 +32,13 @@ bind_bind (ret a) f g = refl
 bind_bind (end e) f g = refl
 bind_bind (ask p k) f g = ap (ask p) (fun_ext (λ s. bind_bind (k s) f g))
 bind_bind (read p k) f g = ap (read p) (fun_ext (λ o. bind_bind (k o) f g))
+
+-- a path that was built, and what follows
+module _ {A : Type 0} {L : Listing Sees} {b : Built} (f : Text → Look A) where
+  pub made_long : {s : Tape} → b ≡ too_long → Done L (made b >>= f) s s (stop (ended_as (Refused PathTooLong) [] [] []))
+  unfolding made refusal_of
+  made_long e = rw e (done_stop _ (done_refuse path_too_long _))
+
+  pub made_fits : {p : Text} {s s' : Tape} {r : Step Ending A} → b ≡ built p → Done L (f p) s s' r → Done L (made b >>= f) s s' r
+  unfolding made
+  made_fits e d = rw e (done_bind _ done_ret d)

@@ -1,3 +1,4 @@
+pub mod Ends
 pub mod Tape
 pub mod Caught
 pub mod Loop

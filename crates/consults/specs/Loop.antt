@@ -17,14 +17,14 @@ module _ {A : Type 0} (L : Listing (Step Fault Manifest)) (f : A → Look (Unit 
     left_start l e t' r d = rw e at d
 
     -- the turn came back
-    pub left_again : (x : A) (l l' : List A) (t t₁ : Tape) (q : Step Ending (Unit {0})) → l ≡ x ∷ l' → Left l₀ t₀ l t → q ≡ go tt → Done L (f x) t t₁ q → Left l₀ t₀ l' t₁
+    pub left_again : (x : A) (l l' : List A) (t t₁ : Tape) → l ≡ x ∷ l' → Left l₀ t₀ l t → Done L (f x) t t₁ (go tt) → Left l₀ t₀ l' t₁
     unfolding for_each ◌>>◌
-    left_again x l l' t t₁ q e h back d t' r rest = h t' r (rw e (done_bind _ (rw back at d) rest))
+    left_again x l l' t t₁ e h d t' r rest = h t' r (rw e (done_bind _ d rest))
 
     -- the turn ended the lookup
-    pub left_stop : (x : A) (l l' : List A) (t t₁ : Tape) (q : Step Ending (Unit {0})) (z : Ending) → l ≡ x ∷ l' → Left l₀ t₀ l t → q ≡ stop z → Done L (f x) t t₁ q → Done L (for_each l₀ f) t₀ t₁ q
+    pub left_stop : (x : A) (l l' : List A) (t t₁ : Tape) (z : Ending) → l ≡ x ∷ l' → Left l₀ t₀ l t → Done L (f x) t t₁ (stop z) → Done L (for_each l₀ f) t₀ t₁ (stop z)
     unfolding for_each ◌>>◌
-    left_stop x l l' t t₁ q z e h ends d = h t₁ q (rw (e, ends) (done_stop _ (rw ends at d)))
+    left_stop x l l' t t₁ z e h d = h t₁ (stop z) (rw e (done_stop _ d))
 
     -- nothing is left
     pub left_end : (l : List A) (t : Tape) → l ≡ [] → Left l₀ t₀ l t → Done L (for_each l₀ f) t₀ t (go tt)

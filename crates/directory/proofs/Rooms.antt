@@ -9,20 +9,23 @@ use Rattle.definition.specs.Ask.{Listing, Step, stop, Ask}
 use Rattle.definition.specs.Manifest.{End}
 use Rattle.consults.specs.declared.Ending.{Ending}
 use Rattle.consults.specs.Tape.{Tape, Done}
-use Rattle.consults.specs.Meaning.{numbers}
+use Rattle.refusal.specs.declared.Refusal.{Refusal}
+use Rattle.refusal.specs.declared.Refusal.TheVariants.{WorkTooShort}
+use Rattle.consults.specs.declared.Case.TheVariants.{Refused}
+use Rattle.consults.specs.Meaning.{ended_as}
 use Rattle.directory.specs.Refusals.{DoneUnless, done, refused, room_in, or_longer}
 
 module _ {M A : Type 0} {L : Listing M} {t : Ask End M A} {s : Tape} where
   -- for a caller
-  pub was_done : {n : Option ℕ} {s' : Tape} {r : Step Ending A} → n ≡ none → DoneUnless L t s n s' r → Done L t s s' r
+  pub was_done : {n : Option Refusal} {s' : Tape} {r : Step Ending A} → n ≡ none → DoneUnless L t s n s' r → Done L t s s' r
   was_done e (done d) = d
   was_done e (refused n) = absurd (let z : ◌≡◌ {A = ℕ} 0 1 = cc in omega arith)
 
   -- for the function itself
-  pub is_done : (n : Option ℕ) {s' : Tape} {r : Step Ending A} → n ≡ none → Done L t s s' r → DoneUnless L t s n s' r
+  pub is_done : (n : Option Refusal) {s' : Tape} {r : Step Ending A} → n ≡ none → Done L t s s' r → DoneUnless L t s n s' r
   is_done n e d = rw e (done d)
 
-  pub is_refused_lem : (n : Option ℕ) (k : ℕ) → n ≡ some k → DoneUnless L t s n s (stop (numbers k [] [] []))
+  pub is_refused_lem : (n : Option Refusal) (k : Refusal) → n ≡ some k → DoneUnless L t s n s (stop (ended_as (Refused k) [] [] []))
   is_refused_lem n k e = rw e (refused k)
 
 -- enough work memory, or not
@@ -30,17 +33,17 @@ pub enough : (w : ℕ) → 1024 ≤ w → room_in w ≡ none
 unfolding room_in
 enough w h = rw (le-leb 1024 w h)
 
-pub too_little : (w : ℕ) → w < 1024 → room_in w ≡ some 25
+pub too_little : (w : ℕ) → w < 1024 → room_in w ≡ some WorkTooShort
 unfolding room_in
 too_little w h = rw (lt-leb 1024 w h)
 
 -- and a text that is not too long
-module _ (k most w n : ℕ) where
+module _ (k : Refusal) (most w n : ℕ) where
   pub fits : 1024 ≤ w → n ≤ most → or_longer k most n (room_in w) ≡ none
   unfolding or_longer
   fits h i = rw (enough w h, le-leb n most i)
 
-  pub no_room : w < 1024 → or_longer k most n (room_in w) ≡ some 25
+  pub no_room : w < 1024 → or_longer k most n (room_in w) ≡ some WorkTooShort
   unfolding or_longer
   no_room h = rw (too_little w h)
 

@@ -1,35 +1,39 @@
 -- What the functions up to LOAD_AS_DIRECTORY give back, and the steps of the definition that one of them does together.
-use Rattle.std.specs.Prelude.{◌≡◌, [], ◌++◌, ℕ, ◌≤◌, length, drop, take}
+use Rattle.std.specs.Prelude.{◌≡◌, [], ◌++◌, ◌≤◌, length, drop}
 use Rattle.std.proofs.Math.Option.{Option, none, some}
 use Rattle.definition.specs.Text.{Text, overwrite}
 use Rattle.definition.specs.Path.{Built, built, too_long, manifest_of}
 use Rattle.definition.specs.Json.{Json, scalar, Read, got, fault, parse, settled}
 use Rattle.definition.specs.JsonAt.{Told, text_at}
 use Rattle.package_json.specs.Values.{Stands}
-use Rattle.laws.specs.ListingSteps.{part}
 use Rattle.definition.specs.Settings.{Settings}
-use Rattle.definition.specs.Ask.{Step, go, stop, ret, ◌>>=◌, ◌>>◌}
+use Rattle.definition.specs.Ask.{ret, ◌>>=◌, ◌>>◌}
 use Rattle.definition.specs.Manifest as definition
 use Rattle.definition.specs.Manifest.{Place, manifest_view, if_text, field}
 use Rattle.definition.specs.Walk as walk
 use Rattle.definition.specs.Walk.{Look, perhaps, for_each, is_dir, when, sound, load_main, LOAD_INDEX, LOAD_AS_DIRECTORY}
+use Rattle.std.specs.Prelude.{Some, None}
+use Rattle.std.specs.declared.option.Option as held
+use Rattle.std.specs.declared.ops.ControlFlow.{ControlFlow}
+use Rattle.std.specs.declared.ops.ControlFlow.TheVariants.{Continue, Break}
+use Rattle.refusal.specs.declared.Refusal.TheVariants.{PathTooLong}
+use Rattle.consults.specs.declared.Case.{Case}
+use Rattle.consults.specs.declared.Case.TheVariants.{Refused}
 use Rattle.consults.specs.declared.Ending.{Ending}
-use Rattle.consults.specs.declared.Way.{Way}
-use Rattle.consults.specs.declared.Way.TheVariants.{Next, Stopped}
+use Rattle.consults.specs.Tape.{Tape}
+use Rattle.consults.specs.Meaning.{ended_as, with_result}
 use Rattle.directory.specs.declared.Package.{Package}
-use Rattle.directory.specs.declared.Package.TheVariants.{Nowhere, At}
-use Rattle.consults.specs.Meaning.{numbers}
 use Rattle.manifests.specs.Meaning.{Sought}
 
--- an ending with a number and three texts, which were written to the result text
-pub record Finishes (n : ℕ) (a b c : Text) (r : Ending) (before after : Text) : Type 0 where
-  pub ending : r ≡ numbers n a b c
-  pub texts : after ≡ overwrite 0 (a ++ (b ++ c)) before
+-- an ending with a case and three texts, which were written to the result text
+pub record Finishes (k : Case) (a b c : Text) (r : Ending) (t u : Tape) : Type 0 where
+  pub ending : r ≡ ended_as k a b c
+  pub texts : u ≡ with_result t (overwrite 0 (a ++ (b ++ c)) t.result)
 
--- the same with a path that was built, or refusal 42
-abbrev pub FinishesIn : ℕ → Built → Ending → (before after : Text) → Type 0
-FinishesIn n (built p) r before after = Finishes n p [] [] r before after
-FinishesIn n too_long r before after = Finishes 42 [] [] [] r before after
+-- the same with a path that was built, or the refusal of one that is over-long
+abbrev pub FinishesIn : Case → Built → Ending → Tape → Tape → Type 0
+FinishesIn k (built p) r t u = Finishes k p [] [] r t u
+FinishesIn k too_long r t u = (r ≡ ended_as (Refused PathTooLong) [] [] []) × (u ≡ t)
 
 -- The nearest manifest, judged: the definition's `nearest` is `seek`, and this where one was found
 unfoldable pub judged : Sought → Look (Option walk.Scope)
@@ -45,26 +49,39 @@ value_of (fault f) = scalar
 abbrev pub json_of : Text → Json
 json_of m = value_of (parse m)
 
-abbrev pub scope_of : Settings → (l dir : Text) → Way → Package → Step Ending (Option walk.Scope)
-scope_of G l dir (Stopped x) p = stop x
-scope_of G l dir Next Nowhere = go none
-scope_of G l dir Next (At n a e i) = go (some (record { dir = take n dir; manifest = manifest_view G (json_of (part l a e)) }))
+-- a package as a scope, and by its manifest alone
+abbrev pub scope_in : Settings → Package → walk.Scope
+scope_in G p = record { dir = p.dir.now; manifest = manifest_view G (json_of p.manifest.now) }
 
-abbrev pub own_of : Settings → (l : Text) → Way → Package → Step Ending (Option definition.Manifest)
-own_of G l (Stopped x) p = stop x
-own_of G l Next Nowhere = go none
-own_of G l Next (At n a e i) = go (some (manifest_view G (json_of (part l a e))))
+abbrev pub judged_of : Settings → Package → Option walk.Scope
+judged_of G p = some (scope_in G p)
+
+abbrev pub scope_of : Settings → held.Option Package → Option walk.Scope
+scope_of G None = none
+scope_of G (Some p) = some (scope_in G p)
+
+abbrev pub own_of : Settings → held.Option Package → Option definition.Manifest
+own_of G None = none
+own_of G (Some p) = some (manifest_view G (json_of p.manifest.now))
 
 -- its value stands at its root
-abbrev pub Held : Text → Package → Type 0
-Held l Nowhere = Unit {0}
-Held l (At n a e i) = Stands 16 (drop i (part l a e)) (json_of (part l a e))
+abbrev pub Rooted : Package → Type 0
+Rooted p = Stands 16 (drop p.root p.manifest.now) (json_of p.manifest.now)
 
--- the path of a directory's own manifest is within the limit
-abbrev pub Fits : (dir : Text) → Way → Package → Type 0
-Fits dir (Stopped x) p = Unit {0}
-Fits dir Next Nowhere = Unit {0}
-Fits dir Next (At n a e i) = length (manifest_of dir) ≤ 2048
+abbrev pub HeldOne : ControlFlow Ending Package → Type 0
+HeldOne (Break x) = Unit {0}
+HeldOne (Continue p) = Rooted p
+
+abbrev pub Held : ControlFlow Ending (held.Option Package) → Type 0
+Held (Break x) = Unit {0}
+Held (Continue None) = Unit {0}
+Held (Continue (Some p)) = Rooted p
+
+-- a directory's own manifest is in it, and its path is within the limit
+abbrev pub Fits : Text → ControlFlow Ending (held.Option Package) → Type 0
+Fits dir (Break x) = Unit {0}
+Fits dir (Continue None) = Unit {0}
+Fits dir (Continue (Some p)) = (p.dir.now ≡ dir) × (length (manifest_of dir) ≤ 2048)
 
 -- the text of a member, if there is one: `text_at` there
 abbrev pub told_in : Option Text → (work : Text) → Told

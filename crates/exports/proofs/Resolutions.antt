@@ -1,8 +1,8 @@
 -- Keys, the main export, and the exports field as a whole.
 use mathlib.Core.Path.{◌≡◌, refl, sym, ◌∙◌, ap}
 use mathlib.Core.Bool.{Bool, true, false, not, ◌&&◌}
-use mathlib.Core.List.{List}
-use mathlib.Core.Option.{none, some}
+use mathlib.Core.List.{List, []}
+use mathlib.Core.Option.{Option, none, some}
 use Prim.Native.Nat.{ℕ}
 use native.Mathlib.Omega.{arith}
 use lib.ListN.{take}
@@ -10,13 +10,11 @@ use Rattle.std.specs.Prelude.{if◌then◌else◌}
 use Rattle.definition.specs.Text.{text, equal}
 use Rattle.definition.specs.Path.{manifest_of}
 use Rattle.definition.specs.Json.{Json, scalar, str, arr, obj, Members}
-use Rattle.definition.specs.Settings.{texts_of}
 use Rattle.definition.specs.Exports as exports
 use Rattle.definition.specs.Exports.{failed, InvalidPackageConfig, or_go_on, path_not_exported, Entry, entries, get, any_key, is_dot_key, is_subpath_key, select, selected_resolve, PACKAGE_TARGET_RESOLVE, PACKAGE_IMPORTS_EXPORTS_RESOLVE, is_mixed, dot_or, main_export, main_resolve, key_resolve, PACKAGE_EXPORTS_RESOLVE}
 use Rattle.package_target.specs.Places.{kind_of}
-use Rattle.package_target.specs.declared.Kind.TheVariants.{Scalar, String, Array}
+use Rattle.package_json.specs.declared.Kind.TheVariants.{Scalar}
 use Rattle.targets.specs.declared.Context.{Context}
-use Rattle.targets.specs.declared.Form.TheVariants.{Plain}
 use Rattle.targets.specs.declared.Outcome.{Outcome}
 use Rattle.targets.specs.declared.Answer.{Answer}
 use Rattle.exports.specs.declared.Member.{Member}
@@ -25,9 +23,9 @@ use Rattle.exports.specs.declared.Resolved.{Resolved}
 use Rattle.targets.specs.Keys.{match_of}
 use Rattle.targets.specs.Contexts.{context_of}
 use Rattle.targets.specs.Answers.{outcome_in, resolved, answer_of}
-use Rattle.package_target.specs.Answers.{Requested, is_nothing}
-use Rattle.exports.specs.Chosen.{key_text, request_for, Applies, resolved_of, dot_request, keys_or_not, IsWhole}
-use Rattle.package_target.proofs.Loops.{nothing_yet, go_stop, go_on}
+use Rattle.package_target.specs.Answers.{is_nothing}
+use Rattle.exports.specs.Chosen.{key_text, request_for, Applies, resolved_of, dot_request, not_exported, IsWhole}
+use Rattle.package_target.proofs.Loops.{nothing_yet, go_stop}
 
 -- an end that speaks of the subpath
 pub subpath_is : (m url subpath path : List ℕ) (r : Resolved) (c : Context) (o : Outcome) → (r.answer.context ≡ c) × (r.answer.outcome ≡ o) × (r.key ≡ Subpath)
@@ -57,9 +55,12 @@ applied {m} {mk} {k} {s} h url conds path a =
     ap (λ x. resolved m a.context (outcome_in url x (match_of mk k.matched) a.outcome (take a.len path))) h.named
     ∙ ap (λ x. resolved m a.context (outcome_in url s.key x a.outcome (take a.len path))) h.matched
 
--- the main export
-pub dot_asked : (url settings pattern : List ℕ) → Requested (dot_request url (texts_of settings 0)) settings url Plain pattern
-dot_asked url settings pattern = record { asked = record { directory = refl; formed = refl }; conditions = refl }
+-- an answer other than nothing ends the algorithm
+pub ended : (m url subpath path : List ℕ) (r : Resolved) (go : exports.Context → exports.Resolved) → is_nothing r.answer.outcome ≡ false
+    → resolved_of m url subpath path r ≡ or_go_on (resolved_of m url subpath path r) go
+ended m url subpath path r go h =
+    sym (go_stop (record { package_url = url; key = key_text m subpath r.key; matched = match_of subpath r.matched; conditions = [] })
+    (context_of m r.answer.context) (take r.answer.len path) r.answer.outcome go h)
 
 module _ (url : List ℕ) (conds : List (List ℕ)) (ms : Members) (c : exports.Context) where
   pub main_dot : (j : Json) → get (text ".") (entries ms) ≡ some j → PACKAGE_TARGET_RESOLVE (dot_request url conds) j c ≡ main_resolve url conds (main_export (obj ms)) c
@@ -77,91 +78,57 @@ module _ (url : List ℕ) (conds : List (List ℕ)) (ms : Members) (c : exports.
 
 -- `PACKAGE_EXPORTS_RESOLVE`
 module _ (url : List ℕ) (conds : List (List ℕ)) (subpath : List ℕ) (c : exports.Context) where
-  pub exports_scalar : (j : Json) → Scalar ≡ kind_of j → record { context = c; outcome = path_not_exported subpath url } ≡ PACKAGE_EXPORTS_RESOLVE url conds subpath j c
+  -- the main export, for "." alone
+  module _ (o : Option Json) (go : exports.Context → exports.Resolved) where
+    abbrev main_part : exports.Resolved
+    main_part = or_go_on (main_resolve url conds (if equal subpath (text ".") then o else none) c) go
+
+    pub main_off : equal subpath (text ".") ≡ false → go c ≡ main_part
+    unfolding main_resolve
+    main_off h = rw h
+
+    pub main_on : equal subpath (text ".") ≡ true → (x : exports.Resolved) → x ≡ main_resolve url conds o c → or_go_on x go ≡ main_part
+    main_on h x e = rw h (ap (λ y. or_go_on y go) e)
+
+  pub exports_scalar : (j : Json) → Scalar ≡ kind_of j → not_exported url subpath c ≡ PACKAGE_EXPORTS_RESOLVE url conds subpath j c
   unfolding PACKAGE_EXPORTS_RESOLVE is_mixed main_export main_resolve key_resolve
   exports_scalar scalar e = go (equal subpath (text "."))
     where
-      go : (b : Bool) → record { context = c; outcome = path_not_exported subpath url } ≡ or_go_on (main_resolve url conds (if b then none else none) c) (λ d. record { context = d; outcome = path_not_exported subpath url })
+      go : (b : Bool) → not_exported url subpath c ≡ or_go_on (main_resolve url conds (if b then none else none) c) (not_exported url subpath)
       go true = refl
       go false = refl
-  exports_scalar (str s) e = cc
-  exports_scalar (arr js) e = cc
-  exports_scalar (obj ms) e = cc
+  exports_scalar (str s) e = absurd (let z : ◌≡◌ {A = ℕ} 0 1 = cc in omega arith)
+  exports_scalar (arr js) e = absurd (let z : ◌≡◌ {A = ℕ} 0 1 = cc in omega arith)
+  exports_scalar (obj ms) e = absurd (let z : ◌≡◌ {A = ℕ} 0 1 = cc in omega arith)
 
-  pub whole_other : (j : Json) → IsWhole j → equal subpath (text ".") ≡ false → record { context = c; outcome = path_not_exported subpath url } ≡ PACKAGE_EXPORTS_RESOLVE url conds subpath j c
+  -- a string or an array
+  pub whole_other : (j : Json) → IsWhole j → equal subpath (text ".") ≡ false → not_exported url subpath c ≡ PACKAGE_EXPORTS_RESOLVE url conds subpath j c
   unfolding PACKAGE_EXPORTS_RESOLVE is_mixed main_export main_resolve key_resolve
   whole_other scalar w e = absurd w
   whole_other (str s) w e = rw e
   whole_other (arr js) w e = rw e
   whole_other (obj ms) w e = absurd w
 
-  whole_main : (j : Json) → IsWhole j → equal subpath (text ".") ≡ true → or_go_on (PACKAGE_TARGET_RESOLVE (dot_request url conds) j c) (λ d. record { context = d; outcome = path_not_exported subpath url }) ≡ PACKAGE_EXPORTS_RESOLVE url conds subpath j c
+  pub whole_main : (j : Json) → IsWhole j → equal subpath (text ".") ≡ true
+      → or_go_on (PACKAGE_TARGET_RESOLVE (dot_request url conds) j c) (not_exported url subpath) ≡ PACKAGE_EXPORTS_RESOLVE url conds subpath j c
   unfolding PACKAGE_EXPORTS_RESOLVE is_mixed main_export main_resolve key_resolve
   whole_main scalar w e = absurd w
   whole_main (str s) w e = rw e
   whole_main (arr js) w e = rw e
   whole_main (obj ms) w e = absurd w
 
-  module _ (m path : List ℕ) (j : Json) (w : IsWhole j) (e : equal subpath (text ".") ≡ true) (a : Answer) (f : answer_of m (dot_request url conds) path a ≡ PACKAGE_TARGET_RESOLVE (dot_request url conds) j c) where
-    pub whole_stop : is_nothing a.outcome ≡ false → answer_of m (dot_request url conds) path a ≡ PACKAGE_EXPORTS_RESOLVE url conds subpath j c
-    whole_stop n =
-        sym (go_stop (dot_request url conds) (context_of m a.context) (take a.len path) a.outcome (λ d. record { context = d; outcome = path_not_exported subpath url }) n)
-        ∙ ap (λ x. or_go_on x (λ d. record { context = d; outcome = path_not_exported subpath url })) f ∙ whole_main j w e
-
-    pub whole_on : is_nothing a.outcome ≡ true → record { context = context_of m a.context; outcome = path_not_exported subpath url } ≡ PACKAGE_EXPORTS_RESOLVE url conds subpath j c
-    whole_on n =
-        sym (go_on (dot_request url conds) (context_of m a.context) (take a.len path) a.outcome (λ d. record { context = d; outcome = path_not_exported subpath url }) n)
-        ∙ ap (λ x. or_go_on x (λ d. record { context = d; outcome = path_not_exported subpath url })) f ∙ whole_main j w e
-
-  -- the keys of an object
+  -- an object: its main export, and then its keys
   module _ (ms : Members) where
-    keys_are : PACKAGE_IMPORTS_EXPORTS_RESOLVE url conds subpath (entries ms) c ≡ key_resolve url conds subpath (obj ms) c
-    unfolding key_resolve
-    keys_are = refl
-
-    module _ (m path : List ℕ) (r : Resolved) (f : resolved_of m url subpath path r ≡ PACKAGE_IMPORTS_EXPORTS_RESOLVE url conds subpath (entries ms) c) where
-      pub keys_stop : is_nothing r.answer.outcome ≡ false → resolved_of m url subpath path r ≡ keys_or_not url conds subpath (obj ms) c
-      keys_stop n =
-          sym (go_stop (record { package_url = url; key = key_text m subpath r.key; matched = match_of subpath r.matched; conditions = conds }) (context_of m r.answer.context) (take r.answer.len path) r.answer.outcome (λ d. record { context = d; outcome = path_not_exported subpath url }) n)
-          ∙ ap (λ x. or_go_on x (λ d. record { context = d; outcome = path_not_exported subpath url })) (f ∙ keys_are)
-
-      pub keys_on : is_nothing r.answer.outcome ≡ true → record { context = context_of m r.answer.context; outcome = path_not_exported subpath url } ≡ keys_or_not url conds subpath (obj ms) c
-      keys_on n =
-          sym (go_on (record { package_url = url; key = key_text m subpath r.key; matched = match_of subpath r.matched; conditions = conds }) (context_of m r.answer.context) (take r.answer.len path) r.answer.outcome (λ d. record { context = d; outcome = path_not_exported subpath url }) n)
-          ∙ ap (λ x. or_go_on x (λ d. record { context = d; outcome = path_not_exported subpath url })) (f ∙ keys_are)
-
-    pub object_mixed : (any_key is_dot_key (entries ms) && any_key (λ k. not (is_dot_key k)) (entries ms)) ≡ true → record { context = c; outcome = failed (InvalidPackageConfig (manifest_of url)) } ≡ PACKAGE_EXPORTS_RESOLVE url conds subpath (obj ms) c
+    pub object_mixed : (any_key is_dot_key (entries ms) && any_key (λ k. not (is_dot_key k)) (entries ms)) ≡ true
+        → record { context = c; outcome = failed (InvalidPackageConfig (manifest_of url)) } ≡ PACKAGE_EXPORTS_RESOLVE url conds subpath (obj ms) c
     unfolding PACKAGE_EXPORTS_RESOLVE is_mixed
     object_mixed h = rw h
 
-    module _ (h : (any_key is_dot_key (entries ms) && any_key (λ k. not (is_dot_key k)) (entries ms)) ≡ false) where
-      pub object_other : equal subpath (text ".") ≡ false → keys_or_not url conds subpath (obj ms) c ≡ PACKAGE_EXPORTS_RESOLVE url conds subpath (obj ms) c
-      unfolding PACKAGE_EXPORTS_RESOLVE is_mixed main_resolve
-      object_other e = rw (h, e)
+    abbrev pub then_keys : exports.Context → exports.Resolved
+    then_keys d = or_go_on (PACKAGE_IMPORTS_EXPORTS_RESOLVE url conds subpath (entries ms) d) (not_exported url subpath)
 
-      object_main : equal subpath (text ".") ≡ true → or_go_on (main_resolve url conds (main_export (obj ms)) c) (λ d. keys_or_not url conds subpath (obj ms) d) ≡ PACKAGE_EXPORTS_RESOLVE url conds subpath (obj ms) c
-      unfolding PACKAGE_EXPORTS_RESOLVE is_mixed
-      object_main e = rw (h, e)
-
-      module _ (e : equal subpath (text ".") ≡ true) (m path : List ℕ) (a : Answer) (f : answer_of m (dot_request url conds) path a ≡ main_resolve url conds (main_export (obj ms)) c) where
-        pub main_stop : is_nothing a.outcome ≡ false → answer_of m (dot_request url conds) path a ≡ PACKAGE_EXPORTS_RESOLVE url conds subpath (obj ms) c
-        main_stop n =
-            sym (go_stop (dot_request url conds) (context_of m a.context) (take a.len path) a.outcome (λ d. keys_or_not url conds subpath (obj ms) d) n)
-            ∙ ap (λ x. or_go_on x (λ d. keys_or_not url conds subpath (obj ms) d)) f ∙ object_main e
-
-        pub main_on : is_nothing a.outcome ≡ true → keys_or_not url conds subpath (obj ms) (context_of m a.context) ≡ PACKAGE_EXPORTS_RESOLVE url conds subpath (obj ms) c
-        main_on n =
-            sym (go_on (dot_request url conds) (context_of m a.context) (take a.len path) a.outcome (λ d. keys_or_not url conds subpath (obj ms) d) n)
-            ∙ ap (λ x. or_go_on x (λ d. keys_or_not url conds subpath (obj ms) d)) f ∙ object_main e
-
-pub whole_string : (j : Json) → String ≡ kind_of j → IsWhole j
-whole_string scalar e = absurd (let z : ◌≡◌ {A = ℕ} 0 1 = cc in omega arith)
-whole_string (str s) e = tt
-whole_string (arr js) e = tt
-whole_string (obj ms) e = absurd (let z : ◌≡◌ {A = ℕ} 0 1 = cc in omega arith)
-
-pub whole_array : (j : Json) → Array ≡ kind_of j → IsWhole j
-whole_array scalar e = absurd (let z : ◌≡◌ {A = ℕ} 0 1 = cc in omega arith)
-whole_array (str s) e = tt
-whole_array (arr js) e = tt
-whole_array (obj ms) e = absurd (let z : ◌≡◌ {A = ℕ} 0 1 = cc in omega arith)
+    pub object_is : (any_key is_dot_key (entries ms) && any_key (λ k. not (is_dot_key k)) (entries ms)) ≡ false
+        → or_go_on (main_resolve url conds (if equal subpath (text ".") then main_export (obj ms) else none) c) then_keys
+        ≡ PACKAGE_EXPORTS_RESOLVE url conds subpath (obj ms) c
+    unfolding PACKAGE_EXPORTS_RESOLVE is_mixed key_resolve
+    object_is h = rw h

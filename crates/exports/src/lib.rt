@@ -3,23 +3,34 @@
 
 #![tactic(auto)]
 
-ghost use Rattle.std.specs.Prelude.{◌≡◌, List, ℕ, ◌≤◌, ◌<◌, length, drop, ◌&&◌, ◌||◌};
+ghost use Rattle.std.specs.Prelude.{◌≡◌, List, ℕ, ◌≤◌, ◌<◌, length, drop, ◌&&◌, ◌||◌, if◌then◌else◌};
+ghost use Rattle.definition.specs.Text.{text, equal};
 ghost use Rattle.definition.specs.Settings.{texts_of, settings_of};
 ghost use Rattle.std.proofs.Math.Option.{Option, none};
 ghost use Rattle.definition.specs.Json.{Json, obj, Members, got, quoted};
 ghost use Rattle.package_json.specs.Values as values;
-ghost use Rattle.definition.specs.Exports.{is_subpath_key, is_dot_key, any_key, Entry, entries, get, better as betterOf, best as bestOf, literal, as_selected, select as selectOf, main_export, main_resolve, PACKAGE_IMPORTS_EXPORTS_RESOLVE, PACKAGE_EXPORTS_RESOLVE};
+ghost use Rattle.definition.specs.Exports as exports;
+ghost use Rattle.definition.specs.Exports.{is_subpath_key, is_dot_key, any_key, Entry, entries, get, Request, better as betterOf, best as bestOf, literal, as_selected, select as selectOf, or_go_on, main_export, main_resolve, PACKAGE_TARGET_RESOLVE, PACKAGE_IMPORTS_EXPORTS_RESOLVE, PACKAGE_EXPORTS_RESOLVE};
 ghost use Rattle.targets.specs.Contexts.{context_of};
-ghost use Rattle.targets.specs.Answers.{answer_of};
+ghost use Rattle.targets.specs.Answers.{answer_of, Asked};
 ghost use Rattle.package_target.specs.Places.{Stands};
-ghost use Rattle.exports.specs.Chosen.{Finds, a_key, joined_keys, keys_of, BestOf, form_of, part_of, Selects, resolved_of, fresh, dot_request, keys_or_not, IsWhole};
+ghost use Rattle.package_target.specs.Answers.{SameBuffers};
+ghost use Rattle.exports.specs.Chosen.{Finds, a_key, joined_keys, keys_of, BestOf, form_of, part_of, Selects, resolved_of, fresh, dot_request, went_on, not_exported, IsWhole};
 
-use package_json::Cursor;
-use package_target::Kind;
-use targets::{Answer, Context, Form, Match, Order, Outcome, Rank};
+use package_json::Kind;
+use package_target::{Buffers, Resolution};
+use std::ops::ControlFlow;
+use targets::{Answer, Context, Form, Outcome, Rank, Span, Wanted};
+
+#[tactic(auto, unfolding(definition::specs::Exports::is_dot_key))]
+fn is_dot_key(key: &[u8]) -> bool
+    ensures { result ≡ is_dot_key key.now }
+{
+    text::starts_with(key, b".") || text::starts_with(key, b"#")
+}
 
 // What the keys of an object begin with.
-#[derive(Clone, Copy)]
+#[derive(Clone, Copy, Default)]
 struct KeyMarks {
     // some key begins with "." or "#"
     dot: bool,
@@ -29,72 +40,51 @@ struct KeyMarks {
     subpath: bool,
 }
 
-fn is_dot_key(key: &[u8]) -> bool
-    ensures { result ≡ is_dot_key key.now }
-{
-    if text::starts_with(key, b".") {
-        return true;
+impl KeyMarks {
+    fn of(key: &[u8]) -> KeyMarks
+        ensures { result ≡ a_key key.now }
+    {
+        let dot = is_dot_key(key);
+        KeyMarks {
+            dot,
+            other: !dot,
+            subpath: targets::is_subpath_key(key),
+        }
     }
-    text::starts_with(key, b"#")
+
+    fn or(self, other: KeyMarks) -> KeyMarks
+        ensures { result ≡ joined_keys self other }
+    {
+        KeyMarks {
+            dot: self.dot || other.dot,
+            other: self.other || other.other,
+            subpath: self.subpath || other.subpath,
+        }
+    }
+
+    fn are_mixed(self) -> bool
+        ensures { result ≡ (self.dot && self.other) }
+    {
+        self.dot && self.other
+    }
 }
 
 // The key at a place.
-fn key_at(m: &[u8], at: usize, work: &mut [u8]) -> KeyMarks
-    requires { 1024 ≤ length work.old }
-    ensures { (k s : List ℕ) → quoted (drop at m.now) ≡ got k s → result ≡ a_key k }
+fn key_at<'a>(m: &'a [u8], at: usize, work: &'a mut [u8; 1024]) -> &'a [u8]
+    ensures { (k s : List ℕ) → quoted (drop at m.now) ≡ got k s → result.now ≡ k }
 {
     let t = package_json::read_text(m, at, work);
-    let key = package_json::text_at(m, work, t);
-    let dot = is_dot_key(key);
-    let subpath = targets::is_subpath_key(key);
-    KeyMarks {
-        dot,
-        other: !dot,
-        subpath,
-    }
-}
-
-fn either(a: bool, b: bool) -> bool
-    ensures { result ≡ (a || b) }
-{
-    if a {
-        return true;
-    }
-    b
-}
-
-fn joined(a: KeyMarks, b: KeyMarks) -> KeyMarks
-    ensures { result ≡ joined_keys a b }
-{
-    KeyMarks {
-        dot: either(a.dot, b.dot),
-        other: either(a.other, b.other),
-        subpath: either(a.subpath, b.subpath),
-    }
+    package_json::text_at(m, work, t)
 }
 
 // The keys of the object at a place.
-fn keys_of(m: &[u8], at: usize, work: &mut [u8]) -> KeyMarks
-    requires { 1024 ≤ length work.old }
+fn keys_of(m: &[u8], at: usize, work: &mut [u8; 1024]) -> KeyMarks
     ensures { (ms : Members) → Stands m.now 15 at (obj ms) → result ≡ keys_of (entries ms) }
 {
-    let mut cursor = package_json::first_member(m, at);
-    let mut keys = KeyMarks {
-        dot: false,
-        other: false,
-        subpath: false,
-    };
-    let mut left: usize = 128;
-    while left > 0 {
-        match cursor {
-            Cursor::Nothing => return keys,
-            Cursor::At(i) => {
-                let key = key_at(m, i, work);
-                keys = joined(keys, key);
-                cursor = package_json::next_member(m, i);
-                left -= 1;
-            }
-        }
+    let mut keys = KeyMarks::default();
+    for member in package_target::members(m, at) {
+        let key = key_at(m, member.name, work);
+        keys = keys.or(KeyMarks::of(key));
     }
     keys
 }
@@ -102,83 +92,52 @@ fn keys_of(m: &[u8], at: usize, work: &mut [u8]) -> KeyMarks
 // The pattern key that comes first of those that match: its place, and the part of the match key that is left over.
 #[derive(Clone, Copy)]
 struct Best {
-    found: bool,
     key: usize,
     rank: Rank,
-    start: usize,
-    len: usize,
+    matched: Span,
 }
 
 // The key at a place, where it matches and comes before the best so far.
-fn better(m: &[u8], key: usize, subpath: &[u8], best: Best, work: &mut [u8]) -> Best
-    requires { 1024 ≤ length work.old }
+fn better(
+    m: &[u8],
+    key: usize,
+    subpath: &[u8],
+    best: Option<Best>,
+    work: &mut [u8; 1024],
+) -> Option<Best>
     ensures { (o : Option Entry) (k s : List ℕ) (j : Json) → quoted (drop key m.now) ≡ got k s → BestOf m.now subpath.now best o → BestOf m.now subpath.now result (betterOf subpath.now o (record { key = k; target = j })) }
 {
-    let t = package_json::read_text(m, key, work);
-    let name = package_json::text_at(m, work, t);
-    let part = targets::pattern_match(subpath, name);
-    match part {
-        Match::Nothing => best,
-        Match::Part { start, len } => {
-            let rank = targets::rank_of(name);
-            let old = best.rank;
-            let order = targets::compare(old, rank);
-            match order {
-                Order::Less => best,
-                Order::Equal => best,
-                Order::Greater => Best {
-                    found: true,
-                    key,
-                    rank,
-                    start,
-                    len,
-                },
-            }
-        }
+    let name = key_at(m, key, work);
+    let Some(matched) = targets::pattern_match(subpath, name) else {
+        return best;
+    };
+    let rank = targets::rank_of(name);
+    match best {
+        None => Some(Best { key, rank, matched }),
+        Some(old) if targets::compare(old.rank, rank).is_gt() => Some(Best { key, rank, matched }),
+        Some(_) => best,
     }
 }
 
-fn best_key(m: &[u8], at: usize, subpath: &[u8], work: &mut [u8]) -> Best
-    requires { 1024 ≤ length work.old }
+fn best_key(m: &[u8], at: usize, subpath: &[u8], work: &mut [u8; 1024]) -> Option<Best>
     ensures { (ms : Members) → Stands m.now 15 at (obj ms) → BestOf m.now subpath.now result (bestOf subpath.now none (entries ms)) }
 {
-    let mut cursor = package_json::first_member(m, at);
-    let mut best = Best {
-        found: false,
-        key: 0,
-        rank: Rank {
-            base: 0,
-            starred: false,
-            len: 0,
-        },
-        start: 0,
-        len: 0,
-    };
-    let mut left: usize = 128;
-    while left > 0 {
-        match cursor {
-            Cursor::Nothing => return best,
-            Cursor::At(i) => {
-                best = better(m, i, subpath, best, work);
-                cursor = package_json::next_member(m, i);
-                left -= 1;
-            }
-        }
+    let mut best = None;
+    for member in package_target::members(m, at) {
+        best = better(m, member.name, subpath, best, work);
     }
     best
 }
 
 // The value that the key at a place has in the object at another: that of its last member.
-fn value_of(m: &[u8], at: usize, key: usize, work: &mut [u8]) -> Cursor
-    requires { 1024 ≤ length work.old }
+fn value_of(m: &[u8], at: usize, key: usize, work: &mut [u8; 1024]) -> Option<usize>
     ensures { (ms : Members) (k s : List ℕ) → Stands m.now 15 at (obj ms) → quoted (drop key m.now) ≡ got k s → Finds m.now 14 (get k (entries ms)) result }
 {
-    let t = package_json::read_text(m, key, work);
-    package_json::get(m, at, package_json::text_at(m, work, t))
+    package_json::get(m, at, key_at(m, key, work))
 }
 
 // The key that a failure names.
-#[derive(Clone, Copy)]
+#[derive(Clone, Copy, Debug, PartialEq, Eq)]
 pub enum Key {
     Dot,
     Subpath,
@@ -187,11 +146,11 @@ pub enum Key {
 }
 
 // The value of the literal key: a match key with a star is none.
-fn literal_at(m: &[u8], at: usize, match_key: &[u8]) -> Cursor
+fn literal_at(m: &[u8], at: usize, match_key: &[u8]) -> Option<usize>
     ensures { (ms : Members) → Stands m.now 15 at (obj ms) → Finds m.now 14 (literal match_key.now (entries ms)) result }
 {
     if text::contains(match_key, b'*') {
-        return Cursor::Nothing;
+        return None;
     }
     package_json::get(m, at, match_key)
 }
@@ -199,97 +158,78 @@ fn literal_at(m: &[u8], at: usize, match_key: &[u8]) -> Cursor
 fn form_of(starred: bool) -> Form
     ensures { result ≡ form_of starred }
 {
-    if starred {
-        return Form::Starred;
-    }
-    Form::Folder
+    if starred { Form::Starred } else { Form::Folder }
 }
 
 // The member of a map that applies to a match key, the literal key's being Key::Subpath: the place of its last value,
 // and the part of the match key that a pattern key leaves over, with the form in which a target takes it.
-#[derive(Clone, Copy)]
+#[derive(Clone, Copy, Debug, PartialEq, Eq)]
 pub struct Member {
     pub key: Key,
     pub value: usize,
-    pub matched: Match,
+    pub matched: Option<Span>,
     pub form: Form,
 }
 
-#[derive(Clone, Copy)]
-pub enum Selected {
-    Nothing,
-    Of(Member),
-}
-
 // The part of a match key that matched; all of it for a literal key, whose targets take none.
-pub fn matched_part(match_key: &[u8], matched: Match) -> &[u8]
+pub fn matched_part(match_key: &[u8], matched: Option<Span>) -> &[u8]
     ensures { result.now ≡ part_of match_key.now matched }
 {
     match matched {
-        Match::Nothing => match_key,
-        Match::Part { start, len } => text::part(match_key, start, len),
+        Some(part) => part.of(match_key),
+        None => match_key,
     }
 }
 
 // The best pattern key's member.
-fn select_pattern(m: &[u8], at: usize, match_key: &[u8], work: &mut [u8]) -> Selected
-    requires { 1024 ≤ length work.old }
+fn select_pattern(m: &[u8], at: usize, match_key: &[u8], work: &mut [u8; 1024]) -> Option<Member>
     ensures { (ms : Members) → Stands m.now 15 at (obj ms) → Selects m.now match_key.now result (as_selected match_key.now (bestOf match_key.now none (entries ms))) }
 {
-    let best = best_key(m, at, match_key, work);
-    let found = best.found;
-    if !found {
-        return Selected::Nothing;
-    }
-    let key = best.key;
-    let found_value = value_of(m, at, key, work);
-    let Cursor::At(value) = found_value else {
-        return Selected::Nothing;
-    };
-    let start = best.start;
-    let len = best.len;
-    let rank = best.rank;
-    let form = form_of(rank.starred);
-    Selected::Of(Member {
-        key: Key::At(key),
+    let best = best_key(m, at, match_key, work)?;
+    let value = value_of(m, at, best.key, work)?;
+    Some(Member {
+        key: Key::At(best.key),
         value,
-        matched: Match::Part { start, len },
-        form,
+        matched: Some(best.matched),
+        form: form_of(best.rank.starred),
     })
+}
+
+// `select` with a work buffer that is long enough.
+fn select_with(m: &[u8], at: usize, match_key: &[u8], work: &mut [u8; 1024]) -> Option<Member>
+    ensures { (ms : Members) → Stands m.now 15 at (obj ms) → Selects m.now match_key.now result (selectOf match_key.now (entries ms)) }
+{
+    if text::ends_with(match_key, b"/") {
+        return None;
+    }
+    match literal_at(m, at, match_key) {
+        Some(value) => Some(Member {
+            key: Key::Subpath,
+            value,
+            matched: None,
+            form: Form::Plain,
+        }),
+        None => select_pattern(m, at, match_key, work),
+    }
 }
 
 // The member that applies to a match key in the object at a place of the manifest m, an exports or an imports map. Where
 // work has fewer than 1,024 bytes there is none; where no object stands there, the answer is free. Work ends with any
 // other bytes.
-pub fn select(m: &[u8], at: usize, match_key: &[u8], work: &mut [u8]) -> Selected
+pub fn select(m: &[u8], at: usize, match_key: &[u8], work: &mut [u8]) -> Option<Member>
     ensures selects { (ms : Members) → 1024 ≤ length work.old → Stands m.now 15 at (obj ms) → Selects m.now match_key.now result (selectOf match_key.now (entries ms)) }
-    ensures value { length work.old < 1024 → result ≡ Selected.Nothing }
+    ensures value { length work.old < 1024 → result ≡ None }
     ensures work_len_unchanged { length work.new ≡ length work.old }
 {
-    if work.len() < 1024 {
-        return Selected::Nothing;
-    }
-    if text::ends_with(match_key, b"/") {
-        return Selected::Nothing;
-    }
-    let literal = literal_at(m, at, match_key);
-    match literal {
-        Cursor::Nothing => select_pattern(m, at, match_key, work),
-        Cursor::At(value) => Selected::Of(Member {
-            key: Key::Subpath,
-            value,
-            matched: Match::Nothing,
-            form: Form::Plain,
-        }),
-    }
+    select_with(m, at, match_key, work.first_chunk_mut()?)
 }
 
 // How an exports field was resolved: an answer, with the key that led to the target and the part of the subpath that matched.
-#[derive(Clone, Copy)]
+#[derive(Clone, Copy, Debug, PartialEq, Eq)]
 pub struct Resolved {
     pub answer: Answer,
     pub key: Key,
-    pub matched: Match,
+    pub matched: Option<Span>,
 }
 
 // An end that speaks of the subpath.
@@ -299,230 +239,162 @@ fn unresolved(c: Context, outcome: Outcome) -> Resolved
     Resolved {
         answer: targets::without_path(c, outcome),
         key: Key::Subpath,
-        matched: Match::Nothing,
+        matched: None,
     }
 }
 
-fn package_imports_exports_resolve(
-    m: &[u8],
-    at: usize,
-    settings: &[u8],
-    url: &[u8],
-    match_key: &[u8],
-    c: Context,
-    work: &mut [u8],
-    path: &mut [u8; 2048],
-) -> Resolved
-    requires { 1024 ≤ length work.old }
-    ensures { (ms : Members) → Stands m.now 15 at (obj ms) → resolved_of m.now url.now match_key.now path.new result ≡ PACKAGE_IMPORTS_EXPORTS_RESOLVE url.now (texts_of settings.now 0) match_key.now (entries ms) (context_of m.now c) }
+// A part of the algorithm: it ends with an answer, or goes on where it found nothing.
+fn unless_nothing(r: Resolved) -> ControlFlow<Resolved, Context>
+    ensures { (m url subpath path : List ℕ) (go : exports.Context → exports.Resolved) → went_on m url subpath path result go ≡ or_go_on (resolved_of m url subpath path r) go }
 {
-    let selected = select(m, at, match_key, work);
-    let Selected::Of(member) = selected else {
-        return unresolved(c, Outcome::Nothing);
-    };
-    let value = member.value;
-    let form = member.form;
-    let matched = member.matched;
-    let answer = package_target::package_target_resolve(
-        m,
-        value,
-        14,
-        settings,
-        url,
-        form,
-        matched_part(match_key, matched),
-        c,
-        work,
-        path,
-    );
-    let key = member.key;
-    Resolved {
-        answer,
-        key,
-        matched,
+    if package_target::is_nothing(r.answer.outcome) {
+        ControlFlow::Continue(r.answer.context)
+    } else {
+        ControlFlow::Break(r)
     }
 }
 
-// What the keys leave over: the path is not exported.
-fn keys_resolve(
-    m: &[u8],
-    at: usize,
-    settings: &[u8],
-    url: &[u8],
-    subpath: &[u8],
-    c: Context,
-    work: &mut [u8],
-    path: &mut [u8; 2048],
-) -> Resolved
-    requires { 1024 ≤ length work.old }
-    ensures { (ms : Members) → Stands m.now 15 at (obj ms) → resolved_of m.now url.now subpath.now path.new result ≡ keys_or_not url.now (texts_of settings.now 0) subpath.now (obj ms) (context_of m.now c) }
-{
-    let r = package_imports_exports_resolve(m, at, settings, url, subpath, c, work, path);
-    let a = r.answer;
-    let outcome = a.outcome;
-    let nothing = package_target::is_nothing(outcome);
-    if !nothing {
-        return r;
-    }
-    let context = a.context;
-    unresolved(context, Outcome::NotExported)
+// An exports field: the place of its value in a manifest, with the settings and the package's directory.
+#[derive(Clone, Copy)]
+pub struct Field<'a> {
+    pub manifest: &'a [u8],
+    pub at: usize,
+    pub settings: &'a [u8],
+    pub url: &'a [u8],
 }
 
-// The main export of an object, in which some key is a subpath's or none.
-fn main_resolve(
-    m: &[u8],
-    at: usize,
-    subpaths: bool,
-    settings: &[u8],
-    url: &[u8],
-    work: &mut [u8],
-    path: &mut [u8; 2048],
-) -> Answer
-    requires { 1024 ≤ length work.old }
-    ensures { (ms : Members) → Stands m.now 15 at (obj ms) → subpaths ≡ any_key is_subpath_key (entries ms) → answer_of m.now (dot_request url.now (texts_of settings.now 0)) path.new result ≡ main_resolve url.now (texts_of settings.now 0) (main_export (obj ms)) fresh }
-{
-    let dot = package_json::get(m, at, b".");
-    match dot {
-        Cursor::At(i) => package_target::package_target_resolve(
-            m,
-            i,
-            14,
-            settings,
-            url,
-            Form::Plain,
-            url,
-            Context::new(),
-            work,
-            path,
-        ),
-        Cursor::Nothing => {
-            if subpaths {
-                return targets::without_path(Context::new(), Outcome::Nothing);
-            }
-            package_target::package_target_resolve(
-                m,
-                at,
-                15,
-                settings,
-                url,
-                Form::Plain,
-                url,
-                Context::new(),
-                work,
-                path,
-            )
+impl<'a> Field<'a> {
+    // The target at a place.
+    fn target(
+        self,
+        wanted: Wanted<'a>,
+        at: usize,
+        depth: usize,
+        c: Context,
+        buffers: &mut Buffers<'_>,
+    ) -> Answer
+        ensures result_after { (q : Request) (j : Json) → Asked q wanted.entry → q.conditions ≡ texts_of self.entry.settings.now 0 → Stands self.entry.manifest.now depth at j → answer_of self.entry.manifest.now q buffers.new.path.now result ≡ PACKAGE_TARGET_RESOLVE q j (context_of self.entry.manifest.now c) }
+        ensures same { SameBuffers buffers.old buffers.new }
+    {
+        let resolution = Resolution {
+            manifest: self.manifest,
+            settings: self.settings,
+            wanted,
+        };
+        let path = &mut *buffers.path;
+        let work = &mut *buffers.work;
+        package_target::package_target_resolve(resolution, at, depth, c, work, path)
+    }
+
+    // PACKAGE_IMPORTS_EXPORTS_RESOLVE
+    fn by_keys(self, match_key: &'a [u8], c: Context, buffers: &mut Buffers<'_>) -> Resolved
+        ensures result_after { (ms : Members) → Stands self.entry.manifest.now 15 self.entry.at (obj ms) → resolved_of self.entry.manifest.now self.entry.url.now match_key.now buffers.new.path.now result ≡ PACKAGE_IMPORTS_EXPORTS_RESOLVE self.entry.url.now (texts_of self.entry.settings.now 0) match_key.now (entries ms) (context_of self.entry.manifest.now c) }
+        ensures same { SameBuffers buffers.old buffers.new }
+    {
+        let Some(member) = select_with(self.manifest, self.at, match_key, buffers.work) else {
+            return unresolved(c, Outcome::Nothing);
+        };
+        let wanted = Wanted {
+            url: self.url,
+            form: member.form,
+            pattern: matched_part(match_key, member.matched),
+        };
+        Resolved {
+            answer: self.target(wanted, member.value, 14, c, buffers),
+            key: member.key,
+            matched: member.matched,
+        }
+    }
+
+    // The main export, which stands at a place.
+    fn main_at(
+        self,
+        at: usize,
+        depth: usize,
+        buffers: &mut Buffers<'_>,
+    ) -> ControlFlow<Resolved, Context>
+        ensures result_after { (j : Json) (subpath : List ℕ) (go : exports.Context → exports.Resolved) → Stands self.entry.manifest.now depth at j → went_on self.entry.manifest.now self.entry.url.now subpath buffers.new.path.now result go ≡ or_go_on (PACKAGE_TARGET_RESOLVE (dot_request self.entry.url.now (texts_of self.entry.settings.now 0)) j fresh) go }
+        ensures same { SameBuffers buffers.old buffers.new }
+    {
+        unless_nothing(Resolved {
+            answer: self.target(Wanted::plain(self.url), at, depth, Context::new(), buffers),
+            key: Key::Dot,
+            matched: None,
+        })
+    }
+
+    // The main export of an object, in which some key is a subpath's or none, for the subpath ".".
+    fn main_of_object(
+        self,
+        subpath: &'a [u8],
+        subpaths: bool,
+        buffers: &mut Buffers<'_>,
+    ) -> ControlFlow<Resolved, Context>
+        ensures result_after { (ms : Members) (go : exports.Context → exports.Resolved) → Stands self.entry.manifest.now 15 self.entry.at (obj ms) → subpaths ≡ any_key is_subpath_key (entries ms) → went_on self.entry.manifest.now self.entry.url.now subpath.now buffers.new.path.now result go ≡ or_go_on (main_resolve self.entry.url.now (texts_of self.entry.settings.now 0) (if equal subpath.now (text ".") then main_export (obj ms) else none) fresh) go }
+        ensures same { SameBuffers buffers.old buffers.new }
+    {
+        if !text::equal(subpath, b".") {
+            return ControlFlow::Continue(Context::new());
+        }
+        match package_json::get(self.manifest, self.at, b".") {
+            Some(dot) => self.main_at(dot, 14, buffers),
+            None if subpaths => ControlFlow::Continue(Context::new()),
+            None => self.main_at(self.at, 15, buffers),
+        }
+    }
+
+    fn object(self, subpath: &'a [u8], buffers: &mut Buffers<'_>) -> ControlFlow<Resolved, Context>
+        ensures result_after { (ms : Members) → Stands self.entry.manifest.now 15 self.entry.at (obj ms) → went_on self.entry.manifest.now self.entry.url.now subpath.now buffers.new.path.now result (not_exported self.entry.url.now subpath.now) ≡ PACKAGE_EXPORTS_RESOLVE self.entry.url.now (texts_of self.entry.settings.now 0) subpath.now (obj ms) fresh }
+        ensures same { SameBuffers buffers.old buffers.new }
+    {
+        let keys = keys_of(self.manifest, self.at, buffers.work);
+        if keys.are_mixed() {
+            return ControlFlow::Break(unresolved(Context::new(), Outcome::ConfigMixed));
+        }
+        let context = self.main_of_object(subpath, keys.subpath, buffers)?;
+        unless_nothing(self.by_keys(subpath, context, buffers))
+    }
+
+    // A string or an array: the main export, and no other.
+    fn whole(self, subpath: &'a [u8], buffers: &mut Buffers<'_>) -> ControlFlow<Resolved, Context>
+        ensures result_after { (j : Json) → IsWhole j → Stands self.entry.manifest.now 15 self.entry.at j → went_on self.entry.manifest.now self.entry.url.now subpath.now buffers.new.path.now result (not_exported self.entry.url.now subpath.now) ≡ PACKAGE_EXPORTS_RESOLVE self.entry.url.now (texts_of self.entry.settings.now 0) subpath.now j fresh }
+        ensures same { SameBuffers buffers.old buffers.new }
+    {
+        if !text::equal(subpath, b".") {
+            return ControlFlow::Continue(Context::new());
+        }
+        self.main_at(self.at, 15, buffers)
+    }
+
+    // The field, unless nothing was found.
+    fn found(self, subpath: &'a [u8], buffers: &mut Buffers<'_>) -> ControlFlow<Resolved, Context>
+        ensures result_after { (j : Json) → Stands self.entry.manifest.now 15 self.entry.at j → went_on self.entry.manifest.now self.entry.url.now subpath.now buffers.new.path.now result (not_exported self.entry.url.now subpath.now) ≡ PACKAGE_EXPORTS_RESOLVE self.entry.url.now (texts_of self.entry.settings.now 0) subpath.now j fresh }
+        ensures same { SameBuffers buffers.old buffers.new }
+    {
+        match package_target::kind_at(self.manifest, self.at) {
+            Kind::Scalar => ControlFlow::Continue(Context::new()),
+            Kind::String | Kind::Array => self.whole(subpath, buffers),
+            Kind::Object => self.object(subpath, buffers),
         }
     }
 }
 
-fn is_mixed(keys: KeyMarks) -> bool
-    ensures { result ≡ (keys.dot && keys.other) }
-{
-    if keys.dot {
-        return keys.other;
-    }
-    false
-}
-
-fn object_resolve(
-    m: &[u8],
-    at: usize,
-    settings: &[u8],
-    url: &[u8],
-    subpath: &[u8],
+// An exports field for a subpath. The answer's path stands at the start of the path buffer; both lent buffers end with any other bytes, and work
+// with its old length. Where no value stands at the field's place, or work has fewer than 1,024 bytes, the answer is free.
+pub fn package_exports_resolve<'a>(
+    field: Field<'a>,
+    subpath: &'a [u8],
     work: &mut [u8],
     path: &mut [u8; 2048],
 ) -> Resolved
-    requires { 1024 ≤ length work.old }
-    ensures { (ms : Members) → Stands m.now 15 at (obj ms) → resolved_of m.now url.now subpath.now path.new result ≡ PACKAGE_EXPORTS_RESOLVE url.now (texts_of settings.now 0) subpath.now (obj ms) fresh }
-{
-    let keys = keys_of(m, at, work);
-    let mixed = is_mixed(keys);
-    if mixed {
-        return unresolved(Context::new(), Outcome::ConfigMixed);
-    }
-    if !text::equal(subpath, b".") {
-        return keys_resolve(m, at, settings, url, subpath, Context::new(), work, path);
-    }
-    let subpaths = keys.subpath;
-    let answer = main_resolve(m, at, subpaths, settings, url, work, path);
-    let outcome = answer.outcome;
-    let nothing = package_target::is_nothing(outcome);
-    if !nothing {
-        return Resolved {
-            answer,
-            key: Key::Dot,
-            matched: Match::Nothing,
-        };
-    }
-    let context = answer.context;
-    keys_resolve(m, at, settings, url, subpath, context, work, path)
-}
-
-// A string or an array: the main export, and no other.
-fn whole_resolve(
-    m: &[u8],
-    at: usize,
-    settings: &[u8],
-    url: &[u8],
-    subpath: &[u8],
-    work: &mut [u8],
-    path: &mut [u8; 2048],
-) -> Resolved
-    requires { 1024 ≤ length work.old }
-    ensures { (j : Json) → IsWhole j → Stands m.now 15 at j → resolved_of m.now url.now subpath.now path.new result ≡ PACKAGE_EXPORTS_RESOLVE url.now (texts_of settings.now 0) subpath.now j fresh }
-{
-    if !text::equal(subpath, b".") {
-        return unresolved(Context::new(), Outcome::NotExported);
-    }
-    let answer = package_target::package_target_resolve(
-        m,
-        at,
-        15,
-        settings,
-        url,
-        Form::Plain,
-        url,
-        Context::new(),
-        work,
-        path,
-    );
-    let outcome = answer.outcome;
-    let nothing = package_target::is_nothing(outcome);
-    if !nothing {
-        return Resolved {
-            answer,
-            key: Key::Dot,
-            matched: Match::Nothing,
-        };
-    }
-    let context = answer.context;
-    unresolved(context, Outcome::NotExported)
-}
-
-// The exports field whose value stands at a place of the manifest m, for the package directory `url` and a subpath. The answer's path stands at the
-// start of the path buffer; both lent buffers end with any other bytes, and work with its old length. Where no value stands there, or work has fewer
-// than 1,024 bytes, the answer is free.
-pub fn package_exports_resolve(
-    m: &[u8],
-    at: usize,
-    settings: &[u8],
-    url: &[u8],
-    subpath: &[u8],
-    work: &mut [u8],
-    path: &mut [u8; 2048],
-) -> Resolved
-    ensures result_after { (j : Json) → 1024 ≤ length work.old → values.Stands 15 (drop at m.now) j → resolved_of m.now url.now subpath.now path.new result ≡ PACKAGE_EXPORTS_RESOLVE url.now (settings_of settings.now).conditions subpath.now j fresh }
+    ensures result_after { (j : Json) → 1024 ≤ length work.old → values.Stands 15 (drop field.entry.at field.entry.manifest.now) j → resolved_of field.entry.manifest.now field.entry.url.now subpath.now path.new result ≡ PACKAGE_EXPORTS_RESOLVE field.entry.url.now (settings_of field.entry.settings.now).conditions subpath.now j fresh }
     ensures work_len_unchanged { length work.new ≡ length work.old }
 {
-    if work.len() < 1024 {
+    let Some(work) = work.first_chunk_mut() else {
         return unresolved(Context::new(), Outcome::NotExported);
-    }
-    let kind = package_target::kind_at(m, at);
-    match kind {
-        Kind::Scalar => unresolved(Context::new(), Outcome::NotExported),
-        Kind::String => whole_resolve(m, at, settings, url, subpath, work, path),
-        Kind::Array => whole_resolve(m, at, settings, url, subpath, work, path),
-        Kind::Object => object_resolve(m, at, settings, url, subpath, work, path),
+    };
+    match field.found(subpath, &mut Buffers { work, path }) {
+        ControlFlow::Break(resolved) => resolved,
+        ControlFlow::Continue(context) => unresolved(context, Outcome::NotExported),
     }
 }

@@ -3,19 +3,16 @@ use Rattle.std.proofs.Math.Option.{Option}
 use Rattle.std.specs.Prelude.{ℕ}
 use Rattle.definition.specs.Text.{Text}
 use Rattle.definition.specs.Exports.{Context}
-use Rattle.definition.specs.Ask.{Step, go, stop}
 use Rattle.definition.specs.Manifest.{Place}
-use Rattle.consults.specs.declared.Ending.{Ending}
-use Rattle.consults.specs.declared.Way.{Way}
-use Rattle.consults.specs.declared.Way.TheVariants.{Next, Stopped}
+use Rattle.refusal.specs.declared.Refusal.{Refusal}
+use Rattle.refusal.specs.declared.Refusal.TheVariants.{PathTooLong}
 use Rattle.consults.specs.Meaning.{place}
 use Rattle.directory.specs.Refusals.{room_in, or_longer}
 
 -- an exports field was resolved to a target
-abbrev pub found_of : Context → Text → Way → Step Ending Place
-found_of c t Next = go (place t c.query c.fragment)
-found_of c t (Stopped x) = stop x
+abbrev pub found_of : Context → Text → Unit {0} → Place
+found_of c t u = place t c.query c.fragment
 
--- 25 by the work memory, or else 42: the path of the manifest has more than 2,048 bytes
-abbrev pub room_naming : (work manifest : ℕ) → Option ℕ
-room_naming w n = or_longer 42 2048 n (room_in w)
+-- the work memory is too short, or else the path of the manifest has more than 2,048 bytes
+abbrev pub room_naming : (work manifest : ℕ) → Option Refusal
+room_naming w n = or_longer PathTooLong 2048 n (room_in w)

@@ -3,7 +3,7 @@
 
 #![tactic(auto)]
 
-ghost use Rattle.std.specs.Prelude.{◌≡◌, List, [], ℕ, ◌≤◌, leb, length};
+ghost use Rattle.std.specs.Prelude.{◌≡◌, [], ◌≤◌, leb, length};
 ghost use Rattle.definition.specs.Path.{manifest_of};
 ghost use Rattle.definition.specs.Exports.{Context, or_dot};
 ghost use Rattle.definition.specs.Ask.{Listing};
@@ -12,23 +12,27 @@ ghost use Rattle.definition.specs.Walk.{given};
 ghost use Rattle.targets.specs.Keys.{match_of};
 ghost use Rattle.targets.specs.Answers.{outcome_in};
 ghost use Rattle.exports.specs.Chosen.{key_text};
-ghost use Rattle.consults.specs.Meaning.{tape_of, Sees};
+ghost use Rattle.consults.specs.Meaning.{tape_of, step_by, Sees, Same};
+ghost use Rattle.consults.specs.declared.Case.TheVariants.{InvalidPackageTarget, PackagePathNotExported};
 ghost use Rattle.directory.specs.Routines.{Finishes};
 ghost use Rattle.directory.specs.Refusals.{DoneUnless};
 ghost use Rattle.exports_ending.specs.Endings.{found_of, room_naming};
 
-use consults::{Ending, Mark, Way};
-use exports::Key;
-use targets::{Match, Outcome};
+use consults::{Case, Ending, Tape};
+use exports::{Key, Resolved};
+use refusal::Refusal;
+use std::ops::ControlFlow;
+use targets::{Outcome, Span};
 
 // Whether the path of a directory's manifest, for which "/package.json" or "package.json" comes behind it, has at most 2,048 bytes.
 fn manifest_fits(dir: &[u8]) -> bool
     ensures { result ≡ leb (length (manifest_of dir.now)) 2048 }
 {
     if dir.len() == 2036 {
-        return text::ends_with(dir, b"/");
+        text::ends_with(dir, b"/")
+    } else {
+        dir.len() < 2036
     }
-    dir.len() < 2036
 }
 
 // An error that names a target, the key that led to it and the manifest.
@@ -38,22 +42,24 @@ fn invalid_target(
     subpath: &[u8],
     key: Key,
     dir: &[u8],
-    res: &mut [u8],
+    tape: &mut Tape<'_>,
     work: &mut [u8],
 ) -> Ending
     requires { (1024 ≤ length work.old) × (length (manifest_of dir.now) ≤ 2048) }
-    ensures { Finishes 3 target.now (key_text m.now subpath.now key) (manifest_of dir.now) result res.old res.new }
+    ensures same { Same tape.old tape.new }
+    ensures finishes { Finishes InvalidPackageTarget target.now (key_text m.now subpath.now key) (manifest_of dir.now) result (tape_of tape.old) (tape_of tape.new) }
 {
-    let p = path::manifest_path(dir);
-    let n = p.len;
-    let manifest = path::first(&p.bytes, n);
+    let path = path::manifest_path(dir);
+    let Some(manifest) = path.as_slice() else {
+        return consults::refuse(Refusal::PathTooLong);
+    };
     match key {
-        Key::Dot => consults::finish(3, target, b".", manifest, res),
-        Key::Subpath => consults::finish(3, target, subpath, manifest, res),
+        Key::Dot => tape.finish(Case::InvalidPackageTarget, target, b".", manifest),
+        Key::Subpath => tape.finish(Case::InvalidPackageTarget, target, subpath, manifest),
         Key::At(i) => {
-            let t = package_json::read_text(m, i, work);
-            let name = package_json::text_at(m, work, t);
-            consults::finish(3, target, name, manifest, res)
+            let at = package_json::read_text(m, i, work);
+            let name = package_json::text_at(m, work, at);
+            tape.finish(Case::InvalidPackageTarget, target, name, manifest)
         }
     }
 }
@@ -64,36 +70,37 @@ fn key_not_exported(
     subpath: &[u8],
     key: Key,
     dir: &[u8],
-    res: &mut [u8],
+    tape: &mut Tape<'_>,
     work: &mut [u8],
 ) -> Ending
     requires { 1024 ≤ length work.old }
-    ensures { Finishes 4 (key_text m.now subpath.now key) dir.now [] result res.old res.new }
+    ensures same { Same tape.old tape.new }
+    ensures finishes { Finishes PackagePathNotExported (key_text m.now subpath.now key) dir.now [] result (tape_of tape.old) (tape_of tape.new) }
 {
     match key {
-        Key::Dot => consults::finish(4, b".", dir, b"", res),
-        Key::Subpath => consults::finish(4, subpath, dir, b"", res),
+        Key::Dot => tape.finish(Case::PackagePathNotExported, b".", dir, b""),
+        Key::Subpath => tape.finish(Case::PackagePathNotExported, subpath, dir, b""),
         Key::At(i) => {
-            let t = package_json::read_text(m, i, work);
-            let name = package_json::text_at(m, work, t);
-            consults::finish(4, name, dir, b"", res)
+            let at = package_json::read_text(m, i, work);
+            let name = package_json::text_at(m, work, at);
+            tape.finish(Case::PackagePathNotExported, name, dir, b"")
         }
     }
 }
 
 // The same for the part of the subpath that matched a pattern key, or ".".
-fn match_not_exported(subpath: &[u8], matched: Match, dir: &[u8], res: &mut [u8]) -> Ending
-    ensures { Finishes 4 (or_dot (match_of subpath.now matched)) dir.now [] result res.old res.new }
+fn match_not_exported(
+    subpath: &[u8],
+    matched: Option<Span>,
+    dir: &[u8],
+    tape: &mut Tape<'_>,
+) -> Ending
+    ensures same { Same tape.old tape.new }
+    ensures finishes { Finishes PackagePathNotExported (or_dot (match_of subpath.now matched)) dir.now [] result (tape_of tape.old) (tape_of tape.new) }
 {
     match matched {
-        Match::Part { start, len } => consults::finish(
-            4,
-            text::part(subpath, start, len),
-            dir,
-            b"",
-            res,
-        ),
-        Match::Nothing => consults::finish(4, b".", dir, b"", res),
+        Some(part) => tape.finish(Case::PackagePathNotExported, part.of(subpath), dir, b""),
+        None => tape.finish(Case::PackagePathNotExported, b".", dir, b""),
     }
 }
 
@@ -103,34 +110,44 @@ pub fn exports_ending(
     m: &[u8],
     dir: &[u8],
     subpath: &[u8],
-    outcome: Outcome,
+    resolved: Resolved,
     target: &[u8],
-    key: Key,
-    matched: Match,
-    res: &mut [u8],
+    tape: &mut Tape<'_>,
     work: &mut [u8],
-) -> Way
-    ensures { (L : Listing Sees) (numbers list : List ℕ) (mark : Mark) (c : Context) → DoneUnless L (given (resolved_to c dir.now subpath.now (outcome_in dir.now (key_text m.now subpath.now key) (match_of subpath.now matched) outcome target.now))) (tape_of res.old numbers list mark) (room_naming (length work.old) (length (manifest_of dir.now))) (tape_of res.new numbers list mark) (found_of c target.now result) }
+) -> ControlFlow<Ending>
+    ensures same { Same tape.old tape.new }
+    ensures done { (L : Listing Sees) (c : Context) → DoneUnless L (given (resolved_to c dir.now subpath.now (outcome_in dir.now (key_text m.now subpath.now resolved.key) (match_of subpath.now resolved.matched) resolved.answer.outcome target.now))) (tape_of tape.old) (room_naming (length work.old) (length (manifest_of dir.now))) (tape_of tape.new) (step_by (found_of c target.now) result) }
 {
     if work.len() < 1024 {
-        return Way::Stopped(consults::refuse(25));
+        return ControlFlow::Break(consults::refuse(Refusal::WorkTooShort));
     }
     if !manifest_fits(dir) {
-        return Way::Stopped(consults::refuse(42));
+        return ControlFlow::Break(consults::refuse(Refusal::PathTooLong));
     }
-    match outcome {
-        Outcome::Found => Way::Next,
-        Outcome::Nothing => Way::Stopped(consults::finish(4, subpath, dir, b"", res)),
-        Outcome::Empty => Way::Stopped(consults::finish(2, target, b"", b"", res)),
+    let key = resolved.key;
+    match resolved.answer.outcome {
+        Outcome::Found => ControlFlow::Continue(()),
+        Outcome::Nothing => {
+            ControlFlow::Break(tape.finish(Case::PackagePathNotExported, subpath, dir, b""))
+        }
+        Outcome::Empty => ControlFlow::Break(tape.finish(Case::Empty, target, b"", b"")),
         Outcome::InvalidTarget => {
-            Way::Stopped(invalid_target(m, target, subpath, key, dir, res, work))
+            ControlFlow::Break(invalid_target(m, target, subpath, key, dir, tape, work))
         }
         Outcome::NotExportedMatch => {
-            Way::Stopped(match_not_exported(subpath, matched, dir, res))
+            ControlFlow::Break(match_not_exported(subpath, resolved.matched, dir, tape))
         }
-        Outcome::NotExported => Way::Stopped(key_not_exported(m, subpath, key, dir, res, work)),
-        Outcome::ConfigMixed => Way::Stopped(directory::manifest_ending(5, dir, res)),
-        Outcome::ConfigDirectory => Way::Stopped(directory::manifest_ending(6, dir, res)),
-        Outcome::OverLong => Way::Stopped(consults::refuse(42)),
+        Outcome::NotExported => {
+            ControlFlow::Break(key_not_exported(m, subpath, key, dir, tape, work))
+        }
+        Outcome::ConfigMixed => {
+            ControlFlow::Break(directory::manifest_ending(Case::InvalidPackageConfig, dir, tape))
+        }
+        Outcome::ConfigDirectory => ControlFlow::Break(directory::manifest_ending(
+            Case::InvalidPackageConfigDirectory,
+            dir,
+            tape,
+        )),
+        Outcome::OverLong => ControlFlow::Break(consults::refuse(Refusal::PathTooLong)),
     }
 }

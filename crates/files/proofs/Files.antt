@@ -1,24 +1,22 @@
--- LOAD_AS_FILE and LOAD_INDEX: the code's paths and loops as the definition's. Assumes nothing.
+-- LOAD_AS_FILE and LOAD_INDEX: the code's paths as the definition's. Assumes nothing.
 use mathlib.Core.Path.{◌≡◌, refl, sym, ◌∙◌}
 use mathlib.Core.Bool.{Bool, true, false}
-use mathlib.Core.List.{List, [], ◌∷◌, ◌++◌}
-use Prim.Native.Nat.{ℕ, ◌+◌, ◌≤◌, ◌<◌}
+use mathlib.Core.List.{◌++◌}
+use Prim.Native.Nat.{◌≤◌, ◌<◌}
 use native.Mathlib.Omega.{arith}
-use native.Mathlib.Numerals.{add-one}
 use borrow.Author.Tests.{lt-leb, leb-false}
 use lib.Dec.{leb}
-use lib.ListN.{length, get_or, drop, drop_of_length-le, length-append}
-use lib.Seq.{drop-cons}
+use lib.ListN.{length, length-append}
 use Rattle.std.specs.Prelude.{if◌then◌else◌}
 use Rattle.definition.specs.Text.{Text, text}
 use Rattle.definition.specs.Path.{Built, built, too_long, and_path, limited, add_extension, add_name_and_extension}
 use Rattle.definition.specs.Settings.{Settings}
-use Rattle.definition.specs.Ask.{Listing, Step, go, stop, ◌>>◌}
+use Rattle.definition.specs.Ask.{Listing, Step}
 use Rattle.definition.specs.Manifest.{Place}
-use Rattle.definition.specs.Walk.{for_each, at, try_file, try_extension, LOAD_AS_FILE, try_index}
+use Rattle.definition.specs.Walk.{try_extension, try_index}
 use Rattle.consults.specs.declared.Ending.{Ending}
-use Rattle.consults.specs.Tape.{Tape, Done, done_bind, done_stop}
-use Rattle.consults.specs.Meaning.{Sees, place}
+use Rattle.consults.specs.Tape.{Tape, Done}
+use Rattle.consults.specs.Meaning.{Sees}
 use Rattle.questions.specs.Meaning.{try_path}
 
 -- a longer text is over the limit where the shorter is
@@ -38,29 +36,14 @@ built_limited p f = by (leb (length p) 2048)
     by true = refl
     by false = refl
 
-module _ (G : Settings) {L : Listing Sees} (p q f : Text) (b : Built) {s s' : Tape} {r : Step Ending (Unit {0})} (d : Done L (try_path G b q f) s s' r) where
+module _ (G : Settings) {L : Listing Sees} (w : Place) (b : Built) {s s' : Tape} {r : Step Ending (Unit {0})} (d : Done L (try_path G w b) s s' r) where
   -- an extension behind the path, and a main file in the directory
-  pub extension_tried : (x : Text) → b ≡ and_path (limited p) (λ u. add_extension u x) → Done L (try_extension G (place p q f) x) s s' r
-  unfolding try_extension try_path add_extension at
-  extension_tried x e = rw (e ∙ built_limited p _ ∙ limited_longer p (p ++ x) (omega (arith, length-append p x))) at d
+  pub extension_tried : (x : Text) → b ≡ and_path (limited w.path) (λ u. add_extension u x) → Done L (try_extension G w x) s s' r
+  unfolding try_extension try_path add_extension
+  extension_tried x e = rw (e ∙ built_limited w.path _ ∙ limited_longer w.path (w.path ++ x) (omega (arith, length-append w.path x))) at d
 
-  pub index_tried : (n x : Text) → b ≡ and_path (limited p) (λ u. add_name_and_extension u n x) → Done L (try_index G (place p q f) n x) s s' r
-  unfolding try_index try_path add_name_and_extension at
-  index_tried n x e = rw (e ∙ built_limited p _ ∙ limited_longer p _ (omega (arith, length-append p (text "/"), length-append (p ++ text "/") n, length-append (p ++ text "/" ++ n) x))) at d
-
--- a loop over the texts of a kind: in turn i those from i on are left
-pub left_texts : {A : Type 0} (z : A) (l : List A) (i : ℕ) → i < length l → drop i l ≡ get_or l i z ∷ drop (i + 1) l
-left_texts z l i h = rw (add-one i) (drop-cons l i z h)
-
-pub none_left : {A : Type 0} (l : List A) (i : ℕ) → length l ≤ i → drop i l ≡ []
-none_left l i h = drop_of_length-le l h
-
--- LOAD_AS_FILE: the file itself ended the lookup, or the extensions follow
-module _ (G : Settings) {L : Listing Sees} (w : Place) {s s₁ : Tape} {q : Step Ending (Unit {0})} (d : Done L (try_file G w) s s₁ q) where
-  pub file_ended : (x : Ending) → q ≡ stop x → Done L (LOAD_AS_FILE G w) s s₁ q
-  unfolding LOAD_AS_FILE ◌>>◌
-  file_ended x e = rw e (done_stop _ (rw e at d))
-
-  pub file_then : {s₂ : Tape} {r : Step Ending (Unit {0})} → q ≡ go tt → Done L (for_each G.extensions (try_extension G w)) s₁ s₂ r → Done L (LOAD_AS_FILE G w) s s₂ r
-  unfolding LOAD_AS_FILE ◌>>◌
-  file_then e rest = done_bind _ (rw e at d) rest
+  pub index_tried : (n x : Text) → b ≡ and_path (limited w.path) (λ u. add_name_and_extension u n x) → Done L (try_index G w n x) s s' r
+  unfolding try_index try_path add_name_and_extension
+  index_tried n x e =
+      let p = w.path in
+      rw (e ∙ built_limited p _ ∙ limited_longer p _ (omega (arith, length-append p (text "/"), length-append (p ++ text "/") n, length-append (p ++ text "/" ++ n) x))) at d

@@ -1,71 +1,21 @@
--- The definition's counts of bytes and digits left, by the code's tests on them.
+-- Where a place's numbers pass the tests, it is one that a string can lead to.
 use mathlib.Core.Path.{◌≡◌, refl}
 use mathlib.Core.Bool.{Bool, true, false}
-use mathlib.Core.List.{[], ◌∷◌}
-use mathlib.Core.Option.{none, some}
-use Prim.Native.Nat.{ℕ, zero, suc, ◌+◌, ◌-◌, ◌*◌, ◌<◌, ◌≤◌}
+use Prim.Native.Nat.{ℕ, zero, suc}
 use native.Mathlib.Omega.{arith}
 use lib.Dec.{leb}
-use borrow.Author.Tests.{lt-ltb, le-ltb, le-leb, eq-eqb, ne_eqb, ltb-true, leb-true, eqb-true}
+use borrow.Author.Tests.{lt-ltb, le-leb, eq-eqb, ne_eqb, ltb-true, leb-true, eqb-true}
+use Rattle.std.specs.Prelude.{Option}
 use Rattle.definition.specs.Text.{within}
-use Rattle.definition.specs.Json.{gives, sequence, hex, second_hex, sequence_byte, hex_byte, second_hex_byte, step}
+use Rattle.definition.specs.Json.{step}
 use Rattle.laws.specs.JsonStringLaws.{by_test}
-use Rattle.json_string.specs.Automaton.{place_of, High, Below, Good, Steps, digit_of, follows, fits, advanced}
+use Rattle.json_string.specs.Automaton.{place_of, High, Below, Good, Steps, follows, fits, advanced}
 use Rattle.json_string.specs.declared.Place.{Place}
 use Rattle.json_string.specs.declared.Place.TheVariants.{Between, Sequence, Escape, Hex, SecondEscape, SecondU, SecondHex}
 use Rattle.json_string.specs.declared.Step.{Step}
 
 not : {P : Type 0} → ⊥ → P
 not z = absurd z
-
-pub seq_more : (n b : ℕ) → 0 < n → (n ≡ 1 → ⊥) → sequence_byte n b ≡ gives (b ∷ []) (sequence (n - 1) 128 191)
-unfolding sequence_byte
-seq_more zero b p q = not (omega arith)
-seq_more (suc zero) b p q = not (q refl)
-seq_more (suc (suc n)) b p q = let e : suc (suc n) - 1 ≡ suc n = omega arith in rw e
-
-module _ (n v x : ℕ) (p : 0 < n) (q : n ≡ 1 → ⊥) where
-  pub hex_more : hex_byte n v (some x) ≡ gives [] (hex (n - 1) (v * 16 + x))
-  unfolding hex_byte
-  hex_more = go n p q
-    where
-      go : (n : ℕ) → 0 < n → (n ≡ 1 → ⊥) → hex_byte n v (some x) ≡ gives [] (hex (n - 1) (v * 16 + x))
-      go zero p q = not (omega arith)
-      go (suc zero) p q = not (q refl)
-      go (suc (suc n)) p q = let e : suc (suc n) - 1 ≡ suc n = omega arith in rw e
-
-  pub second_more : (h : ℕ) → second_hex_byte h n v (some x) ≡ gives [] (second_hex h (n - 1) (v * 16 + x))
-  unfolding second_hex_byte
-  second_more h = go n p q
-    where
-      go : (n : ℕ) → 0 < n → (n ≡ 1 → ⊥) → second_hex_byte h n v (some x) ≡ gives [] (second_hex h (n - 1) (v * 16 + x))
-      go zero p q = not (omega arith)
-      go (suc zero) p q = not (q refl)
-      go (suc (suc n)) p q = let e : suc (suc n) - 1 ≡ suc n = omega arith in rw e
-
--- a digit more
-pub fewer : (n v x : ℕ) → Below n v → (n ≡ 1 → ⊥) → x ≤ 15 → Below (n - 1) (v * 16 + x)
-fewer zero v x b q h = not (let z = b.some_left in omega arith)
-fewer (suc zero) v x b q h = not (q refl)
-fewer (suc (suc zero)) v x b q h = let z = b.small in record { some_left = omega arith; at_most = omega arith; small = omega arith }
-fewer (suc (suc (suc zero))) v x b q h = let z = b.small in record { some_left = omega arith; at_most = omega arith; small = omega arith }
-fewer (suc (suc (suc (suc zero)))) v x b q h = let z = b.small in record { some_left = omega arith; at_most = omega arith; small = omega arith }
-fewer (suc (suc (suc (suc (suc n))))) v x b q h = not (let z = b.at_most in omega arith)
-
-pub in_four : (n v : ℕ) → Below n v → v < 4096
-in_four zero v b = not (let z = b.some_left in omega arith)
-in_four (suc zero) v b = b.small
-in_four (suc (suc zero)) v b = let z = b.small in omega arith
-in_four (suc (suc (suc zero))) v b = let z = b.small in omega arith
-in_four (suc (suc (suc (suc n)))) v b = let z = b.small in omega arith
-
-pub digit_yes : (x : ℕ) → x ≤ 15 → digit_of x ≡ some x
-unfolding digit_of
-digit_yes x h = rw (lt-ltb x 16 (omega arith))
-
-pub digit_no : (x : ℕ) → 15 < x → digit_of x ≡ none
-unfolding digit_of
-digit_no x h = rw (le-ltb x 16 (omega arith))
 
 -- the tests of a place's numbers
 follows_below : (n v : ℕ) → follows n v ≡ true → Below n v
@@ -117,6 +67,6 @@ good_fits (SecondEscape h) g = high_within h g
 good_fits (SecondU h) g = high_within h g
 good_fits (SecondHex h n v) g = rw (high_within h g.0) (below_follows n v g.1)
 
-pub advanced_good : (p : Place) (b : ℕ) {r : Step} → Good p → Steps (advanced p b) r → Steps (step (place_of p) b) r
+pub advanced_good : (p : Place) (b : ℕ) {r : Option Step} → Good p → Steps (advanced p b) r → Steps (step (place_of p) b) r
 unfolding advanced
 advanced_good p b g e = rw (good_fits p g) at e

@@ -1,15 +1,15 @@
 -- The code's places, outputs and steps of a string's reader as the definition's.
-use Rattle.std.specs.Prelude.{◌≡◌, ℕ, zero, suc, ◌≤◌, ◌<◌, Bool, true, false, List, [], ◌∷◌, eqb, ltb, if◌then◌else◌}
-use Rattle.std.proofs.Math.Option.{Option, none, some}
+use Rattle.std.specs.Prelude.{◌≡◌, ℕ, zero, suc, ◌+◌, ◌*◌, ◌≤◌, ◌<◌, Bool, true, false, List, [], ◌∷◌, Option, Some, None, eqb, ltb, if◌then◌else◌}
+use Rattle.std.proofs.Math.Option as math
 use Rattle.definition.specs.Text.{within, utf8}
 use Rattle.definition.specs.Json as json
 use Rattle.definition.specs.Json.{between, sequence, escape, hex, second_escape, second_u, second_hex, bad, close, gives}
 use Rattle.json_string.specs.declared.Place.{Place}
 use Rattle.json_string.specs.declared.Place.TheVariants.{Between, Sequence, Escape, Hex, SecondEscape, SecondU, SecondHex}
 use Rattle.json_string.specs.declared.Out.{Out}
-use Rattle.json_string.specs.declared.Out.TheVariants.{None, Byte, Point}
+use Rattle.json_string.specs.declared.Out.TheVariants.{Byte, Point}
 use Rattle.json_string.specs.declared.Step.{Step}
-use Rattle.json_string.specs.declared.Step.TheVariants.{Bad, Close, Gives}
+use Rattle.json_string.specs.declared.Step.TheVariants.{Close, Gives}
 
 abbrev pub place_of : Place → json.Place
 place_of Between = between
@@ -20,15 +20,15 @@ place_of (SecondEscape h) = second_escape h
 place_of (SecondU h) = second_u h
 place_of (SecondHex h n v) = second_hex h n v
 
-abbrev pub out_of : Out → List ℕ
+abbrev pub out_of : Option Out → List ℕ
 out_of None = []
-out_of (Byte b) = b ∷ []
-out_of (Point c) = utf8 c
+out_of (Some (Byte b)) = b ∷ []
+out_of (Some (Point c)) = utf8 c
 
-abbrev pub step_of : Step → json.Step
-step_of Bad = bad
-step_of Close = close
-step_of (Gives o p) = gives (out_of o) (place_of p)
+abbrev pub step_of : Option Step → json.Step
+step_of None = bad
+step_of (Some Close) = close
+step_of (Some (Gives o p)) = gives (out_of o) (place_of p)
 
 -- a high surrogate; what n hexadecimal digits more may follow
 pub record High (h : ℕ) : Type 0 where
@@ -47,7 +47,7 @@ pub record Below (n v : ℕ) : Type 0 where
   pub at_most : n ≤ 4
   pub small : v < bound n
 
--- the numbers of a place and of an output are in range
+-- the numbers of a place are in range
 abbrev pub Good : Place → Type 0
 Good Between = Unit {0}
 Good (Sequence n lo hi) = 0 < n
@@ -74,17 +74,12 @@ fits (SecondHex h n v) = if within 55296 56319 h then follows n v else false
 unfoldable pub advanced : Place → ℕ → json.Step
 advanced p b = if fits p then json.step (place_of p) b else bad
 
-abbrev pub Fair : Out → Type 0
-Fair None = Unit {0}
-Fair (Byte b) = Unit {0}
-Fair (Point c) = c < 1114112
+abbrev pub GoodStep : Option Step → Type 0
+GoodStep None = Unit {0}
+GoodStep (Some Close) = Unit {0}
+GoodStep (Some (Gives o p)) = Good p
 
-abbrev pub GoodStep : Step → Type 0
-GoodStep Bad = Unit {0}
-GoodStep Close = Unit {0}
-GoodStep (Gives o p) = Fair o × Good p
-
-pub record Steps (s : json.Step) (r : Step) : Type 0 where
+pub record Steps (s : json.Step) (r : Option Step) : Type 0 where
   pub is : step_of r ≡ s
   pub good : GoodStep r
 
@@ -99,5 +94,7 @@ lead_byte b =
     if within 241 243 b then gives (b ∷ []) (sequence 3 128 191) else
     if eqb b 244 then gives (b ∷ []) (sequence 3 128 143) else bad
 
-unfoldable pub digit_of : ℕ → Option ℕ
-digit_of x = if ltb x 16 then some x else none
+-- hexadecimal digits worth v, with a digit more
+abbrev pub WithDigit : ℕ → math.Option ℕ → Option ℕ → Type 0
+WithDigit v d None = d ≡ math.none
+WithDigit v d (Some u) = (x : ℕ) × ((d ≡ math.some x) × (u ≡ v * 16 + x) × (x ≤ 15))

@@ -1,4 +1,5 @@
 pub mod Laws
-pub mod Buffer
 pub mod Strings
+pub mod Buffer
 pub mod Texts
+pub mod Positions

@@ -4,43 +4,42 @@ use mathlib.Core.Bool.{Bool, true, false, ◌||◌}
 use mathlib.Core.List.{List, [], ◌∷◌, ◌++◌}
 use Prim.Native.Nat.{ℕ, zero, suc, ◌+◌, ◌-◌, ◌<◌, ◌≤◌}
 use native.Mathlib.Omega.{arith}
-use lib.ListN.{length, drop, take, get_or}
+use lib.ListN.{length, drop, take, get_or, length-take, length-drop}
 use lib.Seq.{drop-drop}
 use lib.Dec.{eqb, ltb, leb}
-use borrow.Author.Tests.{eq-eqb, ne_eqb, eqb-true, eqb-false, lt-ltb, le-ltb, lt-leb, le-leb, leb-true, leb-false}
-use Rattle.std.specs.Prelude.{if◌then◌else◌}
+use borrow.Author.Tests.{eq-eqb, ne_eqb, eqb-true, eqb-false, lt-leb, le-leb, ltb-true, ltb-false, leb-true, leb-false}
+use Rattle.std.specs.Prelude.{if◌then◌else◌, not, cond, Option, Some, None, Ok}
+use Rattle.std.specs.Option.{option_eq}
+use Rattle.std.specs.List.{prefix_len}
+use Rattle.std.proofs.lemmas.Bool.Decides.{nat_tests}
 use Rattle.definition.specs.Text.{within, equal}
 use Rattle.laws.specs.Local.{and_then_both}
 use Rattle.definition.specs.JsonAt.{has_escape}
 use Rattle.definition.specs.Json as json
 use Rattle.definition.specs.Json.{got, fault, malformed, beyond, and_then, between, sequence, bad, gives, plain_byte, sequence_byte, step, go_on, string, quoted}
-use Rattle.json_text.specs.Scanned.{left, Reads}
-use Rattle.json_text.specs.Decoded.{Begun, plain}
+use Rattle.json_text.specs.Scanned.{left, Left, Reads}
+use Rattle.json_text.specs.Decoded.{is_plain, Begun, plain}
 use Rattle.json_text.specs.Texts.{starts_quote}
-use Rattle.json_text.specs.declared.Scan.TheVariants.{End}
 use Rattle.json_string.proofs.Rules.{here, past}
 use Rattle.json_text.proofs.Laws.{left_map}
+use Rattle.json_text.proofs.Positions.{prefix_fits}
 
 none : {P : Type 0} → ⊥ → P
 none z = absurd z
 
--- the loop over plain bytes
-module _ (m : List ℕ) (i : ℕ) where
-  pub plain_on : i < length m → (get_or m i 0 ≡ 34 → ⊥) → (get_or m i 0 ≡ 92 → ⊥) → i + length (plain (drop i m)) ≡ i + 1 + length (plain (drop (i + 1) m))
-  unfolding plain
-  plain_on l a b = rw (here m i l) (rw (ne_eqb (get_or m i 0) 34 a, ne_eqb (get_or m i 0) 92 b) (omega arith))
+-- as many bytes are plain as come before the first quote or backslash
+pub plain_len : (s : List ℕ) → prefix_len (λ b. not (eqb b 34 || eqb b 92)) s ≡ length (plain s)
+unfolding plain
+plain_len [] = refl
+plain_len (b ∷ s) = go (eqb b 34 || eqb b 92) (plain_len s)
+  where
+    go : (x : Bool) → prefix_len (λ b. not (eqb b 34 || eqb b 92)) s ≡ length (plain s) → cond (not x) (1 + prefix_len (λ b. not (eqb b 34 || eqb b 92)) s) 0 ≡ length (if x then [] else b ∷ plain s)
+    go true h = refl
+    go false h = omega (arith, h)
 
-  pub plain_quote : i < length m → get_or m i 0 ≡ 34 → i + length (plain (drop i m)) ≡ i
-  unfolding plain
-  plain_quote l a = rw (here m i l) (rw (eq-eqb (get_or m i 0) 34 a) (omega arith))
-
-  pub plain_slash : i < length m → (get_or m i 0 ≡ 34 → ⊥) → get_or m i 0 ≡ 92 → i + length (plain (drop i m)) ≡ i
-  unfolding plain
-  plain_slash l a b = rw (here m i l) (rw (ne_eqb (get_or m i 0) 34 a, eq-eqb (get_or m i 0) 92 b) (omega arith))
-
-  pub plain_stop : length m ≤ i → i + length (plain (drop i m)) ≡ i
-  unfolding plain
-  plain_stop l = rw (past m i l) (omega arith)
+pub plain_none : (m : List ℕ) (from : ℕ) → drop from m ≡ [] → from ≡ from + length (plain (drop from m))
+unfolding plain
+plain_none m from l = rw l (omega arith)
 
 pub plain_prefix : (s : List ℕ) → take (length (plain s)) s ≡ plain s
 unfolding plain
@@ -166,6 +165,13 @@ quoted_out m at l = rw (past m at l)
 pub quoted_beyond : {P : Type 0} (m : List ℕ) (at : ℕ) {k s : List ℕ} → length m ≤ at → quoted (drop at m) ≡ got k s → P
 quoted_beyond m at l h = none (let z = quoted_out m at l in let y : ◌≡◌ {A = ℕ} 0 1 = cc in omega arith)
 
+pub quoted_inside : (m : List ℕ) (at : ℕ) {k s : List ℕ} → quoted (drop at m) ≡ got k s → at < length m
+quoted_inside m at h = go (ltb at (length m)) refl
+  where
+    go : (b : Bool) → ltb at (length m) ≡ b → at < length m
+    go true e = ltb-true _ _ e
+    go false e = quoted_beyond m at (ltb-false _ _ e) h
+
 module _ (m : List ℕ) (at : ℕ) (l : at < length m) where
   pub quoted_no : (get_or m at 0 ≡ 34 → ⊥) → quoted (drop at m) ≡ fault malformed
   unfolding quoted
@@ -184,36 +190,73 @@ text_plain m from r {s} {t} u h e q =
     let k : r - from ≡ length (plain (drop from m)) = omega arith in
     rw k (plain_prefix (drop from m)) ∙ sym (plain_string (drop from m) 1024 between free s t h u (plain_stop_at m from r e ∙ q))
 
+-- a string that was read, behind its opening quote; its first quote or backslash is a backslash
+pub quoted_read : (m : List ℕ) (at : ℕ) {k s : List ℕ} → quoted (drop at m) ≡ got k s → string 1024 between (drop (at + 1) m) ≡ got k s
+quoted_read m at {k} {s} h = quoted_string m at k s (quoted_inside m at h) h
+
+pub escaped : (m : List ℕ) (at : ℕ) {k s : List ℕ} → quoted (drop at m) ≡ got k s → (r : ℕ) → r ≡ at + 1 + length (plain (drop (at + 1) m)) → starts_quote (drop r m) ≡ false → has_escape (drop (at + 1) m) ≡ true
+escaped m at {k} {s} h r e q = escape_there (drop (at + 1) m) 1024 between free k s (quoted_read m at h) (ap starts_quote (plain_stop_at m (at + 1) r e) ∙ q)
+
 pub starts_quote_lem : (s : List ℕ) → starts_quote s ≡ true → (u : List ℕ) × (s ≡ 34 ∷ u)
 starts_quote_lem [] e = none (let z : ◌≡◌ {A = Bool} false true = e in let y : ◌≡◌ {A = ℕ} 0 1 = cc in omega arith)
 starts_quote_lem (b ∷ s) e = (s, ap (λ x. x ∷ s) (eqb-true b 34 e))
+
+pub quote_there : (s t : List ℕ) (first : Option ℕ) {b : Bool} → Left first s t → option_eq eqb first (Some 34) ≡ b → starts_quote s ≡ b
+quote_there s t None l e = rw l e
+quote_there s t (Some x) l e = rw l e
 
 -- a byte that gives decoded bytes
 gives_left : (room : ℕ) (p q : json.Place) (b : ℕ) (s out : List ℕ) → step p b ≡ gives out q → length out ≤ room → left (string room p (b ∷ s)) ≡ left (string (room - length out) q s)
 unfolding string go_on
 gives_left room p q b s out e h = rw e (rw (le-leb (length out) room h) (left_map (λ t. out ++ t) (string (room - length out) q s)))
 
--- the loop over ASCII
-pub begun : (m : List ℕ) (at : ℕ) → Begun m at at
-begun m at = let z : 1024 - (at - at) ≡ 1024 = omega arith in record { from = omega arith; room = omega arith; rest = rw z }
-
-ascii_step : (b : ℕ) → 32 ≤ b → b < 128 → (b ≡ 34 → ⊥) → (b ≡ 92 → ⊥) → step between b ≡ gives (b ∷ []) between
+-- ASCII bytes that stand for themselves
+ascii_step : (b : ℕ) → is_plain b ≡ true → step between b ≡ gives (b ∷ []) between
 unfolding step plain_byte
-ascii_step b l h q a = rw (le-ltb b 32 l, ne_eqb b 34 q, ne_eqb b 92 a, lt-ltb b 128 h)
+ascii_step b e = grind (arith, nat_tests)
 
-pub begun_on : {m : List ℕ} {at i : ℕ} → Begun m at i → i < length m → 32 ≤ get_or m i 0 → get_or m i 0 < 128 → (get_or m i 0 ≡ 34 → ⊥) → (get_or m i 0 ≡ 92 → ⊥) → i - at < 1024 → Begun m at (i + 1)
-begun_on {m} {at} {i} g l lo hi q a h =
-    let f = g.from in
-    let z : 1024 - (i - at) - 1 ≡ 1024 - (i + 1 - at) = omega arith in
+plain_run : (s : List ℕ) (room k : ℕ) → k ≤ room → left (string room between s) ≡ left (string (room - prefix_len is_plain (take k s)) between (drop (prefix_len is_plain (take k s)) s))
+plain_run s room zero l = let z : room - 0 ≡ room = omega arith in rw z
+plain_run [] room (suc k) l = let z : room - 0 ≡ room = omega arith in rw z
+plain_run (b ∷ s) room (suc k) l = go (is_plain b) refl (plain_run s (room - 1) k (omega arith))
+  where
+    go : (x : Bool) → is_plain b ≡ x → left (string (room - 1) between s) ≡ left (string (room - 1 - prefix_len is_plain (take k s)) between (drop (prefix_len is_plain (take k s)) s))
+        → left (string room between (b ∷ s)) ≡ left (string (room - cond x (1 + prefix_len is_plain (take k s)) 0) between (drop (cond x (1 + prefix_len is_plain (take k s)) 0) (b ∷ s)))
+    go true e h =
+        let n = prefix_len is_plain (take k s) in
+        let z : room - (1 + n) ≡ room - 1 - n = omega arith in
+        let y : 1 + n ≡ suc n = omega arith in
+        gives_left room between between b s (b ∷ []) (ascii_step b e) (omega arith) ∙ h ∙ sym (rw (z, y))
+    go false e h = let z : room - 0 ≡ room = omega arith in rw z
+
+pub begun : (m : List ℕ) (at n : ℕ) → n ≡ prefix_len is_plain (take 1024 (drop at m)) → Begun m at (at + n)
+begun m at n e =
+    let z : at + n - at ≡ n = omega arith in
+    let y = prefix_fits is_plain (take 1024 (drop at m)) in
     record {
       from = omega arith;
-      room = omega arith;
-      rest = g.rest ∙ rw (here m i l) (gives_left (1024 - (i - at)) between between (get_or m i 0) (drop (i + 1) m) (get_or m i 0 ∷ []) (ascii_step (get_or m i 0) lo hi q a) (omega arith) ∙ rw z);
+      room = omega (arith, length-take 1024 (drop at m));
+      rest = (rw (sym e) at (plain_run (drop at m) 1024 1024 (omega arith))) ∙ rw (z, drop-drop n at m);
     }
 
-pub begun_quote : {m : List ℕ} {at i : ℕ} → Begun m at i → i < length m → get_or m i 0 ≡ 34 → Reads m (string 1024 between (drop at m)) (End (i + 1))
+pub ends_within : (m : List ℕ) (at n : ℕ) → n ≡ prefix_len is_plain (take 1024 (drop at m)) → n ≤ length m - at
+ends_within m at n e = let y = prefix_fits is_plain (take 1024 (drop at m)) in omega (arith, length-take 1024 (drop at m), length-drop at m)
+
+pub begun_quote : {m : List ℕ} {at i : ℕ} → Begun m at i → (first : Option ℕ) → Left first (drop i m) (drop (i + 1) m) → option_eq eqb first (Some 34) ≡ true → Reads m (string 1024 between (drop at m)) (Ok (i + 1))
 unfolding string go_on step plain_byte
-begun_quote {m} {at} {i} g l q = record { is = g.rest ∙ rw (here m i l) (rw q) }
+begun_quote g None l q = none (let z : ◌≡◌ {A = ℕ} 0 1 = cc in omega arith)
+begun_quote g (Some b) l q = record { is = g.rest ∙ rw (l, eqb-true b 34 q) }
+
+same_byte : (b c : ℕ) → eqb b c ≡ eqb c b
+same_byte b c = go (eqb b c) refl
+  where
+    go : (x : Bool) → eqb b c ≡ x → x ≡ eqb c b
+    go true e = sym (eq-eqb c b (sym (eqb-true b c e)))
+    go false e = sym (ne_eqb c b (λ z. eqb-false b c e (sym z)))
+
+pub opposite : (x : Bool) {r y : Bool} → r ≡ not x → r ≡ y → x ≡ not y
+opposite true e h = ap not (sym e ∙ h)
+opposite false e h = ap not (sym e ∙ h)
 
 -- a text is compared with what is left of another: to the end of both
 pub ends_both : (key : List ℕ) (k : ℕ) → leb (length key) k ≡ equal [] (drop k key)
@@ -241,6 +284,9 @@ pub record Verbatim (m key : List ℕ) (i k : ℕ) (t s : List ℕ) : Type 0 whe
   pub calm : Calm place
   pub so_far : Compared m key place i k t s key
 
+pub verbatim_start : (m key t s : List ℕ) → string 1024 between m ≡ got t s → Verbatim m key 0 0 t s
+verbatim_start m key t s h = record { place = between; calm = free; so_far = record { room = 1024; text = t; reads = h; same = refl } }
+
 module _ {m key : List ℕ} {i k : ℕ} {t s : List ℕ} (v : Verbatim m key i k t s) (l : i < length m) where
   byte : go_on (step v.place (get_or m i 0)) v.so_far.room (λ r q. string r q (drop (i + 1) m)) (drop (i + 1) m) ≡ got v.so_far.text s
   unfolding string
@@ -253,16 +299,17 @@ module _ {m key : List ℕ} {i k : ℕ} {t s : List ℕ} (v : Verbatim m key i k
     there : (p : json.Place) × (Calm p × ((u : List ℕ) × ((string (v.so_far.room - 1) p (drop (i + 1) m) ≡ got u s) × (v.so_far.text ≡ get_or m i 0 ∷ u))))
     there = calm_next (get_or m i 0) v.so_far.room (drop (i + 1) m) v.so_far.text s v.place v.calm q a byte
 
-    pub verbatim_short : length key ≤ k → false ≡ equal t key
-    unfolding equal
-    verbatim_short n = let z = there in sym (v.so_far.same ∙ rw (z.1.1.1.1, past key k n))
-
-    module _ (n : k < length key) where
-      pub verbatim_other : (get_or key k 0 ≡ get_or m i 0 → ⊥) → false ≡ equal t key
+    -- the key's byte there, or its end
+    module _ (first : Option ℕ) (kl : Left first (drop k key) (drop (k + 1) key)) where
+      pub verbatim_other : option_eq eqb first (Some (get_or m i 0)) ≡ false → false ≡ equal t key
       unfolding equal
-      verbatim_other d = let z = there in sym (v.so_far.same ∙ rw (z.1.1.1.1, here key k n) (rw (ne_eqb (get_or m i 0) (get_or key k 0) (λ e. d (sym e)))))
+      verbatim_other d = let z = there in sym (v.so_far.same ∙ rw z.1.1.1.1 (go first kl d))
+        where
+          go : (first : Option ℕ) → Left first (drop k key) (drop (k + 1) key) → option_eq eqb first (Some (get_or m i 0)) ≡ false → equal (get_or m i 0 ∷ there.1.1.0) (drop k key) ≡ false
+          go None l d = rw l
+          go (Some x) l d = rw (l, same_byte (get_or m i 0) x ∙ d)
 
-      pub verbatim_on : get_or key k 0 ≡ get_or m i 0 → Verbatim m key (i + 1) (k + 1) t s
+      pub verbatim_on : option_eq eqb first (Some (get_or m i 0)) ≡ true → Verbatim m key (i + 1) (k + 1) t s
       unfolding equal
       verbatim_on d =
           let z = there in
@@ -273,6 +320,10 @@ module _ {m key : List ℕ} {i k : ℕ} {t s : List ℕ} (v : Verbatim m key i k
               room = v.so_far.room - 1;
               text = z.1.1.0;
               reads = z.1.1.1.0;
-              same = v.so_far.same ∙ ap (λ x. equal x (drop k key)) z.1.1.1.1 ∙ rw (here key k n) (rw (eq-eqb (get_or m i 0) (get_or key k 0) (sym d)));
+              same = v.so_far.same ∙ ap (λ x. equal x (drop k key)) z.1.1.1.1 ∙ go first kl d;
             };
           }
+        where
+          go : (first : Option ℕ) → Left first (drop k key) (drop (k + 1) key) → option_eq eqb first (Some (get_or m i 0)) ≡ true → equal (get_or m i 0 ∷ there.1.1.0) (drop k key) ≡ equal there.1.1.0 (drop (k + 1) key)
+          go None l d = none (let z : ◌≡◌ {A = ℕ} 0 1 = cc in omega arith)
+          go (Some x) l d = rw (l, same_byte (get_or m i 0) x ∙ d)

@@ -1,43 +1,57 @@
 -- A string's text and a string that is a given text, by what the code read.
 use mathlib.Core.Path.{◌≡◌, refl, sym, ◌∙◌, ap}
 use mathlib.Core.Bool.{Bool, true, false}
-use mathlib.Core.List.{List, ◌++◌}
+use mathlib.Core.List.{List, [], ◌∷◌, ◌++◌}
 use mathlib.Core.Option.{none, some}
 use Prim.Native.Nat.{ℕ, ◌+◌, ◌-◌, ◌<◌, ◌≤◌}
 use native.Mathlib.Omega.{arith}
 use lib.ListN.{length, drop, take, take-append-drop}
 use lib.Seq.{drop-drop, take_all, length-take-le}
-use borrow.Author.Tests.{le-leb, lt-leb}
+use borrow.Author.Tests.{le-leb, lt-leb, ne_eqb}
+use Rattle.std.specs.List.{slice_range}
+use Rattle.std.proofs.lemmas.Slice.{between_to_end}
+use Rattle.std.specs.Prelude.{Option as Answer, Result, Ok, Err, is_ok}
 use Rattle.definition.specs.Text.{equal, overwrite}
-use Rattle.definition.specs.Json.{Read, got, fault, Fault, quoted}
+use Rattle.definition.specs.Json.{Read, got, fault, Fault, between, string, quoted}
 use Rattle.definition.specs.JsonAt.{is_text, name_is, has_escape, told_at, text_at}
 use Rattle.laws.specs.JsonAtLaws.{text_told}
 use Rattle.json_text.specs.Scanned.{Reads}
 use Rattle.json_text.specs.Texts.{text_of, told, or_empty}
 use Rattle.json_text.specs.declared.TextAt.{TextAt}
-use Rattle.json_text.specs.declared.Scan.{Scan}
-use Rattle.json_text.specs.declared.Scan.TheVariants.{End, Fault as Faulty}
 use Rattle.json_text.specs.declared.Fault as code
 use Rattle.json_text.proofs.Laws.{was_end, was_fault}
 
--- a name
-module _ (m key : List ℕ) (at : ℕ) {r : Bool} (h : (t s : List ℕ) → quoted (drop at m) ≡ got t s → r ≡ equal t key) where
-  pub name_other : r ≡ false → false ≡ name_is key (drop at m)
-  unfolding name_is is_text
-  name_other e = go (quoted (drop at m)) refl
-    where
-      go : (x : Read (List ℕ)) → quoted (drop at m) ≡ x → false ≡ is_text x key
-      go (got t s) q = sym e ∙ h t s q
-      go (fault f) q = refl
+-- a name: by the string behind its quote
+module _ (m key : List ℕ) (at : ℕ) where
+  pub name_none : drop at m ≡ [] → false ≡ name_is key (drop at m)
+  unfolding name_is is_text quoted
+  name_none l = rw l
 
-  module _ {q : Scan} (g : Reads m (quoted (drop at m)) q) where
-    pub name_same : {i : ℕ} → q ≡ End i → r ≡ true → true ≡ name_is key (drop at m)
-    unfolding name_is is_text
-    name_same {i} k e = let z = was_end g k in rw z.1 (sym e ∙ h z.0 (drop i m) z.1)
+  module _ {b : ℕ} (l : drop at m ≡ b ∷ drop (at + 1) m) where
+    pub name_unquoted : (b ≡ 34 → ⊥) → false ≡ name_is key (drop at m)
+    unfolding name_is is_text quoted
+    name_unquoted q = rw (l, ne_eqb b 34 q)
 
-    pub name_faulty : {f : code.Fault} → q ≡ Faulty f → false ≡ name_is key (drop at m)
-    unfolding name_is is_text
-    name_faulty k = rw (was_fault g k)
+    module _ (q : b ≡ 34) {r : Bool} (h : (t u : List ℕ) → string 1024 between (slice_range m (at + 1) (length m)) ≡ got t u → r ≡ equal t key) where
+      told_by : (t u : List ℕ) → string 1024 between (drop (at + 1) m) ≡ got t u → r ≡ equal t key
+      told_by t u e = h t u (ap (string 1024 between) (between_to_end m (at + 1) (length m) (omega arith)) ∙ e)
+
+      behind : name_is key (drop at m) ≡ is_text (string 1024 between (drop (at + 1) m)) key
+      unfolding name_is quoted
+      behind = rw (l, q)
+
+      pub name_other : r ≡ false → r ≡ name_is key (drop at m)
+      unfolding is_text
+      name_other e = e ∙ go (string 1024 between (drop (at + 1) m)) refl ∙ sym behind
+        where
+          go : (x : Read (List ℕ)) → string 1024 between (drop (at + 1) m) ≡ x → false ≡ is_text x key
+          go (got t u) z = sym e ∙ told_by t u z
+          go (fault f) z = refl
+
+      pub name_read : r ≡ true → (x : Result ℕ code.Fault) → Reads m (string 1024 between (drop (at + 1) m)) x → {o : Bool} → o ≡ is_ok x → o ≡ name_is key (drop at m)
+      unfolding is_text
+      name_read e (Ok i) g o = let z = was_end g in o ∙ sym e ∙ told_by z.0 (drop i m) z.1 ∙ sym (behind ∙ ap (λ x. is_text x key) z.1)
+      name_read e (Err f) g o = o ∙ sym (behind ∙ ap (λ x. is_text x key) (was_fault g))
 
 -- the text of a string
 module _ (m : List ℕ) (at : ℕ) (w : List ℕ) where
@@ -73,5 +87,5 @@ module _ (m : List ℕ) (at : ℕ) (w : List ℕ) where
           sym (told_as ∙ rw (e, q) (rw (le-leb 1024 (length w) l, f, y, d) (ap (λ x. record { text = some t; work = x }) (sym z))))
 
 -- what a caller has of a string that was read
-pub text_read : (m w w' : List ℕ) (at : ℕ) (r : TextAt) {t u s : List ℕ} → 1024 ≤ length w → told m w' r ≡ text_at (drop at m) w → u ≡ or_empty (text_of m w' r) → quoted (drop at m) ≡ got t s → u ≡ t
+pub text_read : (m w w' : List ℕ) (at : ℕ) (r : Answer TextAt) {t u s : List ℕ} → 1024 ≤ length w → told m w' r ≡ text_at (drop at m) w → u ≡ or_empty (text_of m w' r) → quoted (drop at m) ≡ got t s → u ≡ t
 text_read m w w' at r {t} {u} {s} l e f q = f ∙ ap or_empty (ap (λ x. x.text) e ∙ text_told (drop at m) w t s l q)

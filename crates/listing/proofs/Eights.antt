@@ -100,22 +100,6 @@ module _ (p q : Text) (i : ℕ) (s : Shared p q i) (h : i + 8 ≤ length p) (k :
       let z : i + 4 + 4 ≡ i + 8 = omega arith in
       rw z at n
 
-abbrev tails : ℕ → List ℕ → List ℕ
-tails zero t = t
-tails (suc n) t = tails n (drop 1 t)
-
-nth : (n : ℕ) (t : List ℕ) → get_or (tails n t) 0 0 ≡ get_or t n 0
-nth zero t = refl
-nth (suc n) [] = nth n []
-nth (suc n) (x ∷ t) = nth n t
-
-pub eight_of : (s : List ℕ) (k : ℕ) (a b : ℕ) → a ≡ ((get_or s k 0 * 256 + get_or s (k + 1) 0) * 256 + get_or s (k + 2) 0) * 256 + get_or s (k + 3) 0
-    → b ≡ ((get_or s (k + 4) 0 * 256 + get_or s (k + 5) 0) * 256 + get_or s (k + 6) 0) * 256 + get_or s (k + 7) 0 → a * 4294967296 + b ≡ high_first 8 0 (drop k s)
-eight_of s k a b e f = let z : get_or s (k + 0) 0 ≡ get_or s k 0 = ap (λ (n : ℕ). get_or s n 0) (omega arith) in omega (arith, e, f, z, at 0, at 1, at 2, at 3, at 4, at 5, at 6, at 7)
-  where
-    at : (i : ℕ) → get_or (tails i (drop k s)) 0 0 ≡ get_or s (k + i) 0
-    at i = nth i (drop k s) ∙ get_or-drop k s i 0
-
 -- a text of 32 bytes or more beside the first words of another: a window is reached by what both share of the windows before it
 module _ (p q : Text) (w : Words) (o : WordsOf q w) (v : Windows w) (h : 32 ≤ length p) (b : Bytes p) where
   pub by_first : high_first 8 0 (drop 0 p) < w.first → smaller p q ≡ true

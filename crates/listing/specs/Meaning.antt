@@ -1,18 +1,14 @@
 -- What the types and answers of `listing` mean.
-use Rattle.std.specs.Prelude.{◌≡◌, List, [], ◌∷◌, ℕ, zero, suc, ◌+◌, ◌*◌, ◌≤◌, ◌<◌, Bool, true, false, ◌&&◌, eqb, leb, length, drop, get_or, if◌then◌else◌}
+use Rattle.std.specs.Prelude.{◌≡◌, List, [], ◌∷◌, ℕ, zero, suc, ◌+◌, ◌*◌, ◌≤◌, ◌<◌, Bool, true, false, ◌&&◌, eqb, leb, length, drop, get_or, if◌then◌else◌, Option, Some, None, Result, Ok, Err}
 use Rattle.definition.specs.Text.{Text, equal, smaller}
 use Rattle.definition.specs.Listing.{Entry, no_entry, directory_entry, file_entry, Span, number32, entry_count, contents_length, found_at, place_at}
 use Rattle.laws.specs.ListingSteps.{part, path_length_at, contents_mark_at, row_by, rows_at}
 use Rattle.listing.specs.declared.Found.{Found}
 use Rattle.listing.specs.declared.Found.TheVariants.{Absent, Directory, File}
-use Rattle.listing.specs.declared.Attempt.{Attempt}
-use Rattle.listing.specs.declared.Attempt.TheVariants.{Sure, Unsure}
-use Rattle.listing.specs.declared.Sought.{Sought}
-use Rattle.listing.specs.declared.Sought.TheVariants.{At, Nowhere, Unknown}
+use Rattle.listing.specs.declared.PastEnd.{PastEnd}
+use Rattle.listing.specs.declared.Spot.{Spot}
 use Rattle.listing.specs.declared.Place.{Place}
 use Rattle.listing.specs.declared.Words.{Words}
-use Rattle.listing.specs.declared.Parting.{Parting}
-use Rattle.listing.specs.declared.Parting.TheVariants.{Up, Down}
 
 -- what a search found: the contents are that part of the bytes, and lie within them
 abbrev pub seen : List ℕ → Found → Entry (List ℕ)
@@ -38,9 +34,9 @@ pub record Searched (l : List ℕ) (p : Text) (r : Found) : Type 0 where
   pub inside : Inside l r
 
 -- what a search over unclamped lengths says, where it is sure
-abbrev pub Attempted : List ℕ → Text → Attempt → Type 0
-Attempted l p (Sure f) = place_of f ≡ place_at l p
-Attempted l p Unsure = Unit {0}
+abbrev pub Attempted : List ℕ → Text → Result Found PastEnd → Type 0
+Attempted l p (Ok f) = place_of f ≡ place_at l p
+Attempted l p (Err e) = Unit {0}
 
 -- where the i-th entry begins, by lengths that are added up unclamped
 unfoldable pub start_of : List ℕ → ℕ → ℕ
@@ -64,10 +60,10 @@ abbrev pub NoneBefore : List ℕ → Text → ℕ → Type 0
 NoneBefore l p i = (j : ℕ) → j < i → has_path l p j ≡ false
 
 -- what the search for an equal path says of n entries
-abbrev pub SoughtFor : List ℕ → Text → ℕ → Sought → Type 0
-SoughtFor l p n (At s) = Reached l n s.index s.at × (s.index < n) × (has_path l p s.index ≡ true) × NoneBefore l p s.index
-SoughtFor l p n Nowhere = place_at l p ≡ no_entry
-SoughtFor l p n Unknown = Unit {0}
+abbrev pub SoughtFor : List ℕ → Text → ℕ → Result (Option Spot) PastEnd → Type 0
+SoughtFor l p n (Ok (Some s)) = Reached l n s.index s.at × (s.index < n) × (has_path l p s.index ≡ true) × NoneBefore l p s.index
+SoughtFor l p n (Ok None) = place_at l p ≡ no_entry
+SoughtFor l p n (Err e) = Unit {0}
 
 -- the first of the entries from the i-th on, where its path begins at `at`
 pub record Placed (l : List ℕ) (i at : ℕ) (p : Place) : Type 0 where
@@ -114,5 +110,5 @@ shared_length (x ∷ p) [] = 0
 shared_length (x ∷ p) (y ∷ q) = if eqb x y then suc (shared_length p q) else 0
 
 -- q is larger than p and parts from it there, or it is not larger
-unfoldable pub parting_of : Text → Text → Parting
-parting_of p q = if smaller p q then Up (shared_length p q) else Down
+unfoldable pub parting_of : Text → Text → Option ℕ
+parting_of p q = if smaller p q then Some (shared_length p q) else None

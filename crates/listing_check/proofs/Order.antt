@@ -5,7 +5,7 @@ use mathlib.Core.List.{List, ◌∷◌}
 use Prim.Native.Nat.{ℕ, ◌+◌, ◌*◌, ◌≤◌, ◌<◌}
 use native.Mathlib.Omega.{arith}
 use lib.ListN.{length, get_or}
-use Rattle.definition.specs.Text.{text, equal, all}
+use Rattle.definition.specs.Text.{Text, text, equal, all}
 use Rattle.definition.specs.Listing.{Row, entry_count, rows, sizes_fit, first_is_root}
 use Rattle.laws.specs.ListingSteps.{part, row_by, root_first, root_length, rows_at, rows_stand, rows_end, all_true, Standing, standing_start}
 use Rattle.laws.specs.ListingOrder.{sized, sized_short, Going, going_start, going_end, in_order}
@@ -13,16 +13,14 @@ use Rattle.listing.specs.Meaning.{Placed}
 use Rattle.listing.specs.declared.Place.{Place}
 use Rattle.listing_check.specs.Meaning.{Stepped}
 
--- the path from start to end is the last seen, and the marks are its
-pub record Kept (l : List ℕ) (n start end : ℕ) (mark : List ℕ) (at i : ℕ) : Type 0 where
-  pub forward : start ≤ end
-  pub inside : end ≤ length l
-  pub short : length (part l start end) ≤ 1024
+-- the path before is the last seen, and the marks are its
+pub record Kept (l : List ℕ) (n : ℕ) (before : Text) (mark : List ℕ) (at i : ℕ) : Type 0 where
+  pub short : length before ≤ 1024
   pub size : length mark ≡ 1025
   pub root : first_is_root (rows l) ≡ true
   pub standing : Standing l n i at
   pub sizes : all sized (rows_at l i at) ≡ true
-  pub going : Going (rows l) (part l start end) (rows_at l i at) mark
+  pub going : Going (rows l) before (rows_at l i at) mark
 
 abbrev in_order_from : List Row → Bool
 in_order_from rs = first_is_root rs && in_order rs
@@ -42,12 +40,10 @@ module _ (l : List ℕ) (n : ℕ) (f : sizes_fit l ≡ true) (e : n ≡ entry_co
   not_directory h d = rw (is_root, h, d)
 
   pub kept_start : b ≡ true → p.directory ≡ true → all sized (rows l) ≡ true → Standing l n 1 p.next → (m : List ℕ) → length m ≡ 1025 → get_or m 1 0 ≡ 1 → ((i : ℕ) → 1 < i → get_or m i 0 ≡ 0)
-      → Kept l n (8 + 8 * n) p.end m p.next 1
+      → Kept l n (part l (8 + 8 * n) p.end) m p.next 1
   kept_start h d z s m size one more =
       let r : equal (part l (8 + 8 * n) p.end) (text "/") ≡ true = sym t ∙ h in
       record {
-        forward = o.starts;
-        inside = omega (arith, o.ends, o.inside);
         short = omega (arith, root_length (part l (8 + 8 * n) p.end) r);
         size = size;
         root = rw (is_root, h, d);
@@ -57,7 +53,7 @@ module _ (l : List ℕ) (n : ℕ) (f : sizes_fit l ≡ true) (e : n ≡ entry_co
       }
 
 -- the next entry, p
-module _ {l : List ℕ} {n start end : ℕ} {m : List ℕ} {at i : ℕ} (k : Kept l n start end m at i) where
+module _ {l : List ℕ} {n : ℕ} {before : Text} {m : List ℕ} {at i : ℕ} (k : Kept l n before m at i) where
   pub kept_end : n ≤ i → true ≡ in_order_from (rows l)
   kept_end h = rw (k.root, going_end _ _ _ _ k.going (rows_end l i at (omega (arith, k.standing.number))))
 
@@ -65,16 +61,14 @@ module _ {l : List ℕ} {n start end : ℕ} {m : List ℕ} {at i : ℕ} (k : Kep
     pub next_short : length (part l at p.end) ≤ 1024
     next_short = sized_short _ _ _ (all_true sized o.rows k.sizes).0
 
-    module _ (m' : List ℕ) (b : Bool) (s : Stepped (part l start end) (part l at p.end) p.directory m m' b) where
+    module _ (m' : List ℕ) (b : Bool) (s : Stepped before (part l at p.end) p.directory m m' b) where
       pub kept_wrong : b ≡ false → false ≡ in_order_from (rows l)
       kept_wrong h = rw (k.root, (rw h at s) _ _ _ _ o.rows k.going)
 
-      pub kept_next : b ≡ true → Standing l n (i + 1) p.next → Kept l n at p.end m' p.next (i + 1)
+      pub kept_next : b ≡ true → Standing l n (i + 1) p.next → Kept l n (part l at p.end) m' p.next (i + 1)
       kept_next h z =
           let g = rw h at s in
           record {
-            forward = o.starts;
-            inside = omega (arith, o.ends, o.inside);
             short = next_short;
             size = g.0 ∙ k.size;
             root = k.root;

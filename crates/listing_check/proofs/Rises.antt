@@ -1,5 +1,5 @@
 -- A path that is larger than the one before it, and where it parts from it.
-use mathlib.Core.Path.{◌≡◌, refl, sym, ◌∙◌, ap}
+use mathlib.Core.Path.{◌≡◌, refl, sym, ◌∙◌}
 use mathlib.Core.Bool.{Bool, true, false, ◌||◌, false≢true}
 use mathlib.Core.List.{[], ◌∷◌}
 use mathlib.Core.Logic.{◌⊎◌, inl, inr, ⊎_elim}
@@ -8,12 +8,10 @@ use native.Mathlib.Omega.{arith}
 use borrow.Author.Tests.{eqb-true, ltb-true, le-ltb}
 use lib.Dec.{eqb, ltb}
 use lib.ListN.{length, take, get_or}
-use Rattle.std.specs.Prelude.{if◌then◌else◌}
+use Rattle.std.specs.Prelude.{if◌then◌else◌, Option, Some, None}
 use Rattle.definition.specs.Text.{Text, smaller}
 use Rattle.laws.specs.ListingOrder.{Rise, rise_short, rise_here}
 use Rattle.listing.specs.Meaning.{shared_length, parting_of}
-use Rattle.listing.specs.declared.Parting.{Parting}
-use Rattle.listing.specs.declared.Parting.TheVariants.{Up, Down}
 
 -- both begin with n bytes, and then q has a byte that p has not, or a larger one
 record Apart (p q : Text) (n : ℕ) : Type 0 where
@@ -49,28 +47,21 @@ apart (x ∷ p) (y ∷ q) h = go (eqb x y) refl (apart p q)
 rises : (p q : Text) → smaller p q ≡ true → Rise p q (shared_length p q)
 rises p q h = let a = apart p q h in ⊎_elim (λ n. rise_short p q _ a.same a.left a.right n) (λ n. rise_here p q _ a.same a.left a.right n.0 n.1) a.ends
 
-abbrev place_of : Parting → ℕ
-place_of (Up j) = j
-place_of Down = 0
-
-abbrev is_up : Parting → Bool
-is_up (Up j) = true
-is_up Down = false
-
-pub risen : {p q : Text} {t : Parting} {j : ℕ} → t ≡ parting_of p q → t ≡ Up j → Rise p q j
+pub risen : {p q : Text} {t : Option ℕ} {j : ℕ} → t ≡ parting_of p q → t ≡ Some j → Rise p q j
 unfolding parting_of
 risen {p} {q} {t} {j} h e = go (smaller p q) refl
   where
     go : (b : Bool) → smaller p q ≡ b → Rise p q j
     go true s =
-        let n : shared_length p q ≡ j = ap place_of (rw s at (sym h ∙ e)) in
+        let z : Some (shared_length p q) ≡ Some j = rw s at (sym h ∙ e) in
+        let n : shared_length p q ≡ j = cc in
         rw n at (rises p q s)
-    go false s = absurd (false≢true (ap is_up (rw s at (sym h ∙ e))))
+    go false s = let z : None ≡ Some j = rw s at (sym h ∙ e) in cc
 
-pub not_risen : (p q : Text) → parting_of p q ≡ Down → smaller p q ≡ false
+pub not_risen : (p q : Text) → parting_of p q ≡ None → smaller p q ≡ false
 unfolding parting_of
 not_risen p q e = go (smaller p q) refl
   where
     go : (b : Bool) → smaller p q ≡ b → smaller p q ≡ false
-    go true s = absurd (false≢true (sym (ap is_up (rw s at e))))
+    go true s = let z : Some (shared_length p q) ≡ None = rw s at e in cc
     go false s = s

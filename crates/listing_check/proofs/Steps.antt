@@ -6,6 +6,7 @@ use Prim.Native.Nat.{ℕ, ◌+◌, ◌-◌, ◌≤◌, ◌<◌, max}
 use native.Mathlib.Omega.{arith}
 use lib.ListN.{length, drop, get_or, length-drop}
 use lib.Seq.{take_all}
+use Rattle.std.specs.Prelude.{Option, None}
 use Rattle.definition.specs.Text.{Text, slash, before_last}
 use Rattle.definition.specs.Listing.{Row, is_path}
 use Rattle.laws.specs.PathSteps.{LastAt, last_missing, last_there}
@@ -13,13 +14,11 @@ use Rattle.laws.specs.ListingNameLaws.{is_name, path_no_slash, path_two_slashes,
 use Rattle.laws.specs.ListingSteps.{row}
 use Rattle.laws.specs.ListingOrder.{Rise, Going, Remarked, mark_of, going_down, going_no_path, going_apart, going_unmarked, going_too_deep, name_is_lem, going_next}
 use Rattle.listing.specs.Meaning.{parting_of}
-use Rattle.listing.specs.declared.Parting.{Parting}
-use Rattle.listing.specs.declared.Parting.TheVariants.{Down}
 use Rattle.listing_check.proofs.Rises.{not_risen}
 use Rattle.listing_check.specs.Meaning.{Stepped}
 
 module _ (p q : Text) (d : Bool) (m : List ℕ) where
-  pub down : {t : Parting} → t ≡ parting_of p q → t ≡ Down → Stepped p q d m m false
+  pub down : {t : Option ℕ} → t ≡ parting_of p q → t ≡ None → Stepped p q d m m false
   down h e rs tail rest c f g = going_down rs p m q d c rest tail g f (not_risen p q (sym h ∙ e))
 
   module _ (s : ℕ) (l : s ≡ length (before_last slash q)) where

@@ -1,23 +1,17 @@
 -- What the types and answers of `listing_check` mean.
-use Rattle.std.specs.Prelude.{◌≡◌, Bool, true, false, List, ◌∷◌, ℕ, length, if◌then◌else◌}
+use Rattle.std.specs.Prelude.{◌≡◌, Bool, true, false, List, ◌∷◌, ℕ, length, if◌then◌else◌, Result, Ok, Err}
 use Rattle.definition.specs.Text.{Text}
-use Rattle.definition.specs.Listing.{Row, no_directory_manifest, passes30, passes31, passes32}
+use Rattle.definition.specs.Listing.{Row, passes30, passes31, passes32}
 use Rattle.laws.specs.ListingSteps.{row}
-use Rattle.laws.specs.ListingOrder.{Going, in_order, sized, shallow}
-use Rattle.listing_check.specs.declared.Rule.{Rule}
-use Rattle.listing_check.specs.declared.Rule.TheVariants.{Sizes, Depth, Manifests}
-use Rattle.listing_check.specs.declared.Checked.{Checked}
-use Rattle.listing_check.specs.declared.Checked.TheVariants.{Accepted, Refused}
+use Rattle.laws.specs.ListingOrder.{Going, in_order}
+use Rattle.refusal.specs.declared.Refusal.{Refusal}
+use Rattle.refusal.specs.declared.Refusal.TheVariants as refused
 
 -- what the check says
-unfoldable pub verdict : List ℕ → Checked
-verdict l = if passes30 l then if passes31 l then if passes32 l then Accepted else Refused 32 else Refused 31 else Refused 30
-
--- the rules that each entry keeps by itself
-abbrev pub rule_of : Rule → Row → Bool
-rule_of Sizes = sized
-rule_of Depth = shallow
-rule_of Manifests = no_directory_manifest
+unfoldable pub verdict : List ℕ → Result (Unit {0}) Refusal
+verdict l =
+    if passes30 l then if passes31 l then if passes32 l then Ok tt else Err refused.ManifestDirectory else Err refused.Order
+    else Err refused.Sizes
 
 -- one step of the pass over paths, order, parents and depth, whatever the entries are
 abbrev pub Stepped : Text → Text → Bool → List ℕ → List ℕ → Bool → Type 0

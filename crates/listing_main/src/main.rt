@@ -1,597 +1,661 @@
 // Runs listings with known answers through the check and the search, and prints for each group how many are as expected.
-// A listing is written as lines: d or f, a path, and for a file with contents "=" and the contents.
 #![tactic(auto)]
 
-ghost use Rattle.std.specs.Prelude.{◌<◌};
-
 use listing::Found;
-use listing_check::Checked;
+use refusal::Refusal;
+use std::alloc::{AllocError, Global};
 use std::io;
 
-// The group's name, and how many of its cases are as expected; or after how many one was not.
-fn report(rt: &impl Print, name: &str, got: usize, wanted: usize) -> io::Result<()> {
-    if got == wanted {
-        println!(rt; "{name}: {got} as expected")
-    } else {
-        println!(rt; "{name}: not as expected after {got}")
+type Text = &'static [u8];
+
+// An entry of a listing: a directory's path, or a file's with the file's contents.
+enum Entry {
+    Directory(Text),
+    File(Text, Text),
+}
+
+// What a search finds at a path.
+enum Sought {
+    Absent(Text),
+    Directory(Text),
+    File(Text, Text),
+}
+
+// A listing in order.
+const PRINTED: &[Entry] = &[
+    Entry::Directory(b"/"),
+    Entry::Directory(b"/p"),
+    Entry::Directory(b"/p/node_modules"),
+    Entry::Directory(b"/p/node_modules/mat"),
+    Entry::Directory(b"/p/node_modules/mat/lib"),
+    Entry::File(b"/p/node_modules/mat/lib/steel.js", b""),
+    Entry::File(
+        b"/p/node_modules/mat/package.json",
+        b"{\"exports\":{\"./*\":\"./lib/*.js\"}}",
+    ),
+];
+
+// One in which a number or the length is changed.
+const ALTERED: &[Entry] = &[
+    Entry::Directory(b"/"),
+    Entry::Directory(b"/a"),
+    Entry::File(b"/a/package.json", b"{}"),
+];
+
+enum Change {
+    // the number of 32 bits at a place
+    Number(usize, u32),
+    OneMore,
+    OneLess,
+}
+
+const CHANGES: &[(Change, Result<(), Refusal>)] = &[
+    (Change::Number(0, 3), Ok(())),
+    // the count: none, one more, one less, the most that 32 bits hold
+    (Change::Number(0, 0), Err(Refusal::Sizes)),
+    (Change::Number(0, 4), Err(Refusal::Sizes)),
+    (Change::Number(0, 2), Err(Refusal::Sizes)),
+    (Change::Number(0, 4294967295), Err(Refusal::Sizes)),
+    // the text length, a path length, a contents length, a directory that becomes a file
+    (Change::Number(4, 19), Err(Refusal::Sizes)),
+    (Change::Number(8, 2), Err(Refusal::Sizes)),
+    (Change::Number(28, 1), Err(Refusal::Sizes)),
+    (Change::Number(24, 1), Err(Refusal::Sizes)),
+    (Change::OneMore, Err(Refusal::Sizes)),
+    (Change::OneLess, Err(Refusal::Sizes)),
+];
+
+// The most of something that a listing may have, and one more.
+enum Size {
+    // bytes of a path
+    Path(usize),
+    // components of a path
+    Depth(usize),
+    Entries(usize),
+    // bytes of the listing
+    Whole(usize),
+}
+
+const LIMITS: &[(Size, Result<(), Refusal>)] = &[
+    (Size::Path(1024), Ok(())),
+    (Size::Path(1025), Err(Refusal::Sizes)),
+    (Size::Depth(32), Ok(())),
+    (Size::Depth(33), Err(Refusal::Sizes)),
+    (Size::Entries(1024), Ok(())),
+    (Size::Entries(1025), Err(Refusal::Sizes)),
+    (Size::Whole(65536), Ok(())),
+    (Size::Whole(65537), Err(Refusal::Sizes)),
+];
+
+// Names with dots and beyond ASCII, an empty manifest, a name that "/" sorts before, a longer name than package.json.
+const ACCEPTED: &[&[Entry]] = &[
+    &[Entry::Directory(b"/")],
+    &[
+        Entry::Directory(b"/"),
+        Entry::File(b"/...", b""),
+        Entry::File(b"/..a", b""),
+        Entry::File(b"/.a", b""),
+    ],
+    &[
+        Entry::Directory(b"/"),
+        Entry::File(b"/\xC3\xA9", b""),
+        Entry::File(b"/\xF0\x9F\x98\x80", b""),
+    ],
+    &[Entry::Directory(b"/"), Entry::File(b"/package.json", b"")],
+    &[
+        Entry::Directory(b"/"),
+        Entry::Directory(b"/a"),
+        Entry::File(b"/a-b", b""),
+        Entry::File(b"/a/b", b""),
+    ],
+    &[Entry::Directory(b"/"), Entry::Directory(b"/xpackage.json")],
+];
+
+// No entry; contents elsewhere than in a manifest, alone and beside a fault of order or a directory of that name.
+const BAD_SIZES: &[&[Entry]] = &[
+    &[],
+    &[Entry::Directory(b"/"), Entry::File(b"/a", b"x")],
+    &[Entry::Directory(b"/"), Entry::File(b"/xpackage.json", b"x")],
+    &[
+        Entry::Directory(b"/"),
+        Entry::File(b"/b", b""),
+        Entry::File(b"/a", b"x"),
+    ],
+    &[
+        Entry::Directory(b"/"),
+        Entry::File(b"/a", b"x"),
+        Entry::Directory(b"/package.json"),
+    ],
+];
+
+// The first entry; empty, relative, "/" at the end or twice; dots; byte 0; not UTF-8.
+const BAD_PATHS: &[&[Entry]] = &[
+    &[Entry::Directory(b"/a")],
+    &[Entry::File(b"/", b"")],
+    &[Entry::File(b"", b"")],
+    &[Entry::Directory(b"/"), Entry::File(b"", b"")],
+    &[Entry::Directory(b"/"), Entry::File(b"a", b"")],
+    &[
+        Entry::Directory(b"/"),
+        Entry::Directory(b"/a"),
+        Entry::Directory(b"/a/"),
+    ],
+    &[Entry::Directory(b"/"), Entry::File(b"//a", b"")],
+    &[
+        Entry::Directory(b"/"),
+        Entry::Directory(b"/a"),
+        Entry::File(b"/a//b", b""),
+    ],
+    &[Entry::Directory(b"/"), Entry::Directory(b"/.")],
+    &[Entry::Directory(b"/"), Entry::Directory(b"/..")],
+    &[
+        Entry::Directory(b"/"),
+        Entry::Directory(b"/a"),
+        Entry::File(b"/a/.", b""),
+    ],
+    &[
+        Entry::Directory(b"/"),
+        Entry::Directory(b"/a"),
+        Entry::Directory(b"/a/.."),
+    ],
+    &[Entry::Directory(b"/"), Entry::File(b"/a\x00b", b"")],
+    &[Entry::Directory(b"/"), Entry::File(b"/\xFF", b"")],
+    &[Entry::Directory(b"/"), Entry::File(b"/a\xC3", b"")],
+    &[Entry::Directory(b"/"), Entry::File(b"/\xED\xA0\x80", b"")],
+];
+
+// Order; twice the same; no parent; a file as parent; all beside a directory named package.json.
+const BAD_ORDER: &[&[Entry]] = &[
+    &[
+        Entry::Directory(b"/"),
+        Entry::File(b"/b", b""),
+        Entry::File(b"/a", b""),
+    ],
+    &[
+        Entry::Directory(b"/"),
+        Entry::File(b"/a", b""),
+        Entry::File(b"/a", b""),
+    ],
+    &[Entry::Directory(b"/"), Entry::Directory(b"/")],
+    &[
+        Entry::Directory(b"/"),
+        Entry::Directory(b"/ab"),
+        Entry::File(b"/a/c", b""),
+    ],
+    &[Entry::Directory(b"/"), Entry::File(b"/a/b", b"")],
+    &[
+        Entry::Directory(b"/"),
+        Entry::Directory(b"/a"),
+        Entry::Directory(b"/a/b"),
+        Entry::File(b"/ab", b""),
+        Entry::File(b"/b/c", b""),
+    ],
+    &[
+        Entry::Directory(b"/"),
+        Entry::Directory(b"/a"),
+        Entry::File(b"/a/b/c", b""),
+    ],
+    &[
+        Entry::Directory(b"/"),
+        Entry::File(b"/a", b""),
+        Entry::File(b"/a/b", b""),
+    ],
+    &[
+        Entry::Directory(b"/"),
+        Entry::Directory(b"/a"),
+        Entry::File(b"/a-b", b""),
+        Entry::File(b"/a-b/c", b""),
+    ],
+    &[
+        Entry::Directory(b"/"),
+        Entry::Directory(b"/package.json"),
+        Entry::Directory(b"/a"),
+    ],
+];
+
+const MANIFEST_DIRECTORIES: &[&[Entry]] = &[
+    &[Entry::Directory(b"/"), Entry::Directory(b"/package.json")],
+    &[
+        Entry::Directory(b"/"),
+        Entry::Directory(b"/a"),
+        Entry::Directory(b"/a/package.json"),
+    ],
+    &[
+        Entry::Directory(b"/"),
+        Entry::Directory(b"/package.json"),
+        Entry::File(b"/package.json/a", b""),
+    ],
+];
+
+const SEARCHED: &[Sought] = &[
+    Sought::Directory(b"/"),
+    Sought::Directory(b"/p"),
+    Sought::Absent(b"/q"),
+    Sought::Absent(b""),
+    Sought::Absent(b"/p/"),
+    Sought::Absent(b"/p/node_module"),
+    Sought::Directory(b"/p/node_modules"),
+    Sought::Directory(b"/p/node_modules/mat/lib"),
+    Sought::File(b"/p/node_modules/mat/lib/steel.js", b""),
+    Sought::File(
+        b"/p/node_modules/mat/package.json",
+        b"{\"exports\":{\"./*\":\"./lib/*.js\"}}",
+    ),
+    Sought::Absent(b"/p/package.json"),
+];
+
+// Where bytes are missing, an entry ends where they end, and missing lengths count as zeros.
+const CUT_IN_CONTENTS: &[Sought] = &[
+    Sought::Directory(b"/p"),
+    Sought::File(
+        b"/p/node_modules/mat/package.json",
+        b"{\"exports\":{\"./*\":\"./l",
+    ),
+    Sought::Absent(b"/q"),
+    Sought::Absent(b""),
+];
+
+const CUT_IN_PATH: &[Sought] = &[
+    Sought::Directory(b"/p"),
+    Sought::File(b"/p/node_modules/mat/pack", b""),
+    Sought::Absent(b"/p/node_modules/mat/package.json"),
+];
+
+// The arrays: a first mark that is whole, one byte short, and missing.
+const CUT_IN_MARKS: &[Sought] = &[
+    Sought::Directory(b""),
+    Sought::Absent(b"/"),
+    Sought::Absent(b"/p"),
+];
+
+const CUT_IN_MARK: &[Sought] = &[Sought::File(b"", b""), Sought::Absent(b"/")];
+
+const CUT_IN_LENGTHS: &[Sought] = &[
+    Sought::File(b"", b""),
+    Sought::Absent(b"/"),
+    Sought::Absent(b"/p"),
+];
+
+// Paths that do not rise: the first path not below the one sought decides.
+const FALLING: &[Entry] = &[
+    Entry::Directory(b"/"),
+    Entry::File(b"/c", b""),
+    Entry::File(b"/b", b""),
+    Entry::File(b"/a", b""),
+];
+
+const FALLING_SEARCHED: &[Sought] = &[
+    Sought::Directory(b"/"),
+    Sought::File(b"/c", b""),
+    Sought::Absent(b"/b"),
+    Sought::Absent(b"/a"),
+    Sought::Absent(b"/d"),
+];
+
+const EQUAL_PATHS: &[Entry] = &[
+    Entry::Directory(b"/"),
+    Entry::File(b"/a", b"x"),
+    Entry::File(b"/a", b"y"),
+    Entry::Directory(b"/b"),
+    Entry::File(b"/b", b"z"),
+    Entry::File(b"/a", b"x"),
+];
+
+const EQUAL_PATHS_SEARCHED: &[Sought] = &[
+    Sought::File(b"/a", b"x"),
+    Sought::Directory(b"/b"),
+    Sought::Absent(b"/c"),
+];
+
+const BEGINNINGS: &[Entry] = &[
+    Entry::File(b"/ab", b"x"),
+    Entry::File(b"/a", b"y"),
+    Entry::File(b"/abc", b"z"),
+];
+
+const BEGINNINGS_SEARCHED: &[Sought] = &[
+    Sought::File(b"/ab", b"x"),
+    Sought::Absent(b"/a"),
+    Sought::File(b"/abc", b"z"),
+    Sought::Absent(b"/abcd"),
+    Sought::Absent(b"/"),
+];
+
+const EMPTY_FIRST: &[Entry] = &[
+    Entry::File(b"", b"x"),
+    Entry::File(b"", b"y"),
+    Entry::Directory(b"/"),
+];
+
+const EMPTY_FIRST_SEARCHED: &[Sought] = &[Sought::File(b"", b"x"), Sought::Directory(b"/")];
+
+const EMPTY_LAST: &[Entry] = &[Entry::Directory(b"/"), Entry::File(b"", b"x")];
+
+const EMPTY_LAST_SEARCHED: &[Sought] = &[Sought::Absent(b""), Sought::Directory(b"/")];
+
+// Over 32 bytes in common.
+const FAR_IN_COMMON: &[Entry] = &[
+    Entry::File(b"/p/node_modules/element-beam/lib/b.js", b"x"),
+    Entry::File(b"/p/node_modules/element-beam/lib/a.js", b"y"),
+    Entry::File(b"/p/node_modules/element-beam/lib/c.js", b"z"),
+];
+
+const FAR_IN_COMMON_SEARCHED: &[Sought] = &[
+    Sought::File(b"/p/node_modules/element-beam/lib/b.js", b"x"),
+    Sought::Absent(b"/p/node_modules/element-beam/lib/a.js"),
+    Sought::File(b"/p/node_modules/element-beam/lib/c.js", b"z"),
+    Sought::Absent(b"/p/node_modules/element-beam/lib"),
+];
+
+// Two files with contents between two without, and where the contents of each start and end.
+const FILES: &[Entry] = &[
+    Entry::Directory(b"/"),
+    Entry::File(b"/a", b""),
+    Entry::File(b"/b", b"xy"),
+    Entry::File(b"/c", b"z"),
+    Entry::File(b"/d", b""),
+];
+
+const PLACES: &[(Text, usize, usize)] = &[
+    (b"/a", 51, 51),
+    (b"/b", 53, 55),
+    (b"/c", 57, 58),
+    (b"/d", 60, 60),
+];
+
+const NO_BYTES: &[Sought] = &[Sought::Absent(b"/"), Sought::Absent(b"")];
+
+const ONE_BYTE: &[Sought] = &[Sought::Absent(b"/"), Sought::File(b"", b"")];
+
+// A listing that is being written: its two arrays, and its texts.
+#[derive(Drop)]
+struct Writer {
+    count: u32,
+    path_lengths: Vec<u8>,
+    marks: Vec<u8>,
+    texts: Vec<u8>,
+}
+
+impl Writer {
+    fn new(alloc: Global) -> Writer {
+        Writer {
+            count: 0,
+            path_lengths: Vec::new(alloc),
+            marks: Vec::new(alloc),
+            texts: Vec::new(alloc),
+        }
+    }
+
+    fn entry(&mut self, path: &[u8], mark: u32, contents: &[u8]) -> Result<(), AllocError> {
+        self.count = self.count.saturating_add(1);
+        self.path_lengths
+            .extend_from_slice(&number(path.len()).to_le_bytes())?;
+        self.marks.extend_from_slice(&mark.to_le_bytes())?;
+        self.texts.extend_from_slice(path)?;
+        self.texts.extend_from_slice(contents)
+    }
+
+    fn directory(&mut self, path: &[u8]) -> Result<(), AllocError> {
+        self.entry(path, u32::MAX, b"")
+    }
+
+    fn file(&mut self, path: &[u8], contents: &[u8]) -> Result<(), AllocError> {
+        self.entry(path, number(contents.len()), contents)
+    }
+
+    // The listing: the two sizes, the arrays, the texts.
+    fn written(&self, alloc: Global) -> Result<Vec<u8>, AllocError> {
+        let mut listing = Vec::new(alloc);
+        listing.extend_from_slice(&self.count.to_le_bytes())?;
+        listing.extend_from_slice(&number(self.texts.len()).to_le_bytes())?;
+        listing.extend_from_slice(&self.path_lengths)?;
+        listing.extend_from_slice(&self.marks)?;
+        listing.extend_from_slice(&self.texts)?;
+        Ok(listing)
     }
 }
 
-fn put(l: &mut [u8], at: usize, b: u8) {
-    if at < l.len() {
-        l[at] = b;
-    }
+// A length as a number of a listing; no text here is longer.
+fn number(length: usize) -> u32 {
+    u32::try_from(length).unwrap_or(u32::MAX)
 }
 
-// A number of 32 bits, low byte first.
-fn put_number(l: &mut [u8], at: usize, x: usize)
-    requires { at < 1000000 }
+fn listing_of(alloc: Global, entries: &[Entry]) -> Result<Vec<u8>, AllocError> {
+    let mut writer = Writer::new(alloc);
+    for entry in entries {
+        match *entry {
+            Entry::Directory(path) => writer.directory(path)?,
+            Entry::File(path, contents) => writer.file(path, contents)?,
+        }
+    }
+    writer.written(alloc)
+}
+
+// The group's name, and how many of its rows are as expected; or after how many one was not.
+fn report<T, F: Fn(&T) -> Result<bool, AllocError>>(
+    rt: &impl Print,
+    name: &str,
+    rows: &[T],
+    is_expected: F,
+) -> io::Result<()>
+    requires { F.IsAlwaysCallable is_expected }
 {
-    put(l, at, (x % 256) as u8);
-    put(l, at + 1, (x / 256 % 256) as u8);
-    put(l, at + 2, (x / 65536 % 256) as u8);
-    put(l, at + 3, (x / 16777216 % 256) as u8);
-}
-
-// The text at a place; the place behind it.
-fn put_text(l: &mut [u8], from: usize, s: &[u8]) -> usize {
-    let mut at = from;
-    for b in s {
-        if at >= l.len() {
-            return at;
-        }
-        l[at] = *b;
-        at += 1;
-    }
-    at
-}
-
-fn mark(kind: u8, size: usize) -> usize {
-    if kind == b'd' { 4294967295 } else { size }
-}
-
-// The i-th of n entries.
-fn put_entry(
-    l: &mut [u8],
-    n: usize,
-    i: usize,
-    at: usize,
-    kind: u8,
-    path: &[u8],
-    inner: &[u8],
-) -> usize
-    requires { (n < 2000) × (i < 2000) }
-{
-    put_number(l, 8 + 4 * i, path.len());
-    put_number(l, 8 + 4 * n + 4 * i, mark(kind, inner.len()));
-    let end = put_text(l, at, path);
-    put_text(l, end, inner)
-}
-
-// The two sizes in front of n entries whose text ends at `end`.
-fn put_sizes(l: &mut [u8], n: usize, end: usize)
-    requires { n < 2000 }
-{
-    put_number(l, 0, n);
-    if 8 + 8 * n <= end {
-        put_number(l, 4, end - (8 + 8 * n));
-    }
-}
-
-// An entry from its line.
-fn put_line(l: &mut [u8], n: usize, i: usize, at: usize, line: &[u8]) -> usize
-    requires { (n < 2000) × (i < 2000) }
-{
-    let cut = text::find(line, b'=', 1);
-    if cut >= line.len() {
-        if line.len() < 1 {
-            return at;
-        }
-        return put_entry(l, n, i, at, line[0], &line[1..], b"");
-    }
-    if cut < 1 {
-        return at;
-    }
-    let from = cut + 1;
-    put_entry(l, n, i, at, line[0], &line[1..cut], &line[from..])
-}
-
-// A listing from its lines; its length.
-fn build(l: &mut [u8], lines: &[u8]) -> usize {
-    let n = text::count(lines, b'\n');
-    if n >= 2000 {
-        return 0;
-    }
-    let mut at = 8 + 8 * n;
-    let mut from = 0;
-    for i in 0..n {
-        let end = text::find(lines, b'\n', from);
-        if end < from {
-            return 0;
-        }
-        if end >= lines.len() {
-            return 0;
-        }
-        at = put_line(l, n, i, at, &lines[from..end]);
-        from = end + 1;
-    }
-    put_sizes(l, n, at);
-    at
-}
-
-// The number of the check, 0 where it accepts.
-fn number_of(l: &[u8], end: usize) -> u8 {
-    if end > l.len() {
-        return 1;
-    }
-    let c = listing_check::check(&l[0..end]);
-    match c {
-        Checked::Accepted => 0,
-        Checked::Refused(n) => n,
-    }
-}
-
-fn verdict(lines: &[u8]) -> u8 {
-    let mut l = [0u8; 4096];
-    let end = build(&mut l, lines);
-    number_of(&l, end)
-}
-
-// Cases, each ended by ";": how many have the number, up to the first that has not.
-fn cases(table: &[u8], wanted: u8) -> usize {
-    let mut n: usize = 0;
-    let mut from: usize = 0;
-    while from < table.len() {
-        let end = text::find(table, b';', from);
-        if end < from {
-            return n;
-        }
-        if end >= table.len() {
-            return n;
-        }
-        if verdict(&table[from..end]) != wanted {
-            return n;
-        }
-        from = end + 1;
-        n += 1;
-    }
-    n
-}
-
-fn cut_off(l: &[u8], end: usize) -> usize {
-    for n in 0..end {
-        if number_of(l, n) != 30 {
-            return n;
+    for (n, row) in rows.iter().enumerate() {
+        if !is_expected(row)? {
+            return println!(rt; "{name}: not as expected after {n}");
         }
     }
-    end
+    println!(rt; "{name}: {} as expected", rows.len())
+}
+
+fn report_checks(
+    rt: &(impl Print + AllocGlobal),
+    name: &str,
+    rows: &[&[Entry]],
+    wanted: Result<(), Refusal>,
+) -> io::Result<()> {
+    let alloc = rt.alloc();
+    report(
+        rt,
+        name,
+        rows,
+        |entries| Ok(listing_check::check(&listing_of(alloc, entries)?) == wanted),
+    )
 }
 
 // A good listing, and what is left of it cut off behind each of its bytes.
-fn cuts(lines: &[u8]) -> usize {
-    let mut l = [0u8; 4096];
-    let end = build(&mut l, lines);
-    if number_of(&l, end) != 0 {
-        return 0;
-    }
-    cut_off(&l, end)
+fn report_cuts(rt: &(impl Print + AllocGlobal)) -> io::Result<()> {
+    let listing = listing_of(rt.alloc(), PRINTED)?;
+    let lengths = (0..listing.len()).collect::<Vec<usize>>(rt.alloc())?;
+    let whole = listing_check::check(&listing);
+    report(rt, "cut off", &lengths, |n| {
+        Ok(
+            whole == Ok(())
+                && listing_check::check(text::part(&listing, 0, *n)) == Err(Refusal::Sizes),
+        )
+    })
 }
 
-// The root and a file whose path has k bytes.
-fn long_path(k: usize) -> u8
-    requires { k < 2000 }
-{
-    let mut l = [b'a'; 4096];
-    put_entry(&mut l, 2, 0, 24, b'd', b"/", b"");
-    put_entry(&mut l, 2, 1, 25, b'f', b"/", b"");
-    put_number(&mut l, 12, k);
-    put_sizes(&mut l, 2, 25 + k);
-    number_of(&l, 25 + k)
-}
-
-// The root, and below it directories, each in the one before, n in all.
-fn put_nested(l: &mut [u8], n: usize) -> usize
-    requires { n < 37 }
-{
-    let path = *b"/a/a/a/a/a/a/a/a/a/a/a/a/a/a/a/a/a/a/a/a/a/a/a/a/a/a/a/a/a/a/a/a/a/a/a/a";
-    let mut at = put_entry(l, n, 0, 8 + 8 * n, b'd', b"/", b"");
-    for i in 1..n {
-        let size = 2 * i;
-        at = put_entry(l, n, i, at, b'd', &path[0..size], b"");
-    }
-    put_sizes(l, n, at);
-    at
-}
-
-// Down to k components.
-fn nested(k: usize) -> u8
-    requires { k < 36 }
-{
-    let mut l = [0u8; 4096];
-    let end = put_nested(&mut l, k + 1);
-    number_of(&l, end)
-}
-
-fn put_file(l: &mut [u8], n: usize, i: usize, at: usize) -> usize
-    requires { (n < 1500) × (i < 1500) }
-{
-    let name = [b'/', (48 + i / 64) as u8, (48 + i % 64) as u8];
-    put_entry(l, n, i, at, b'f', &name, b"")
-}
-
-// The root and n - 1 files.
-fn put_files(l: &mut [u8], n: usize) -> usize
-    requires { n < 1500 }
-{
-    let mut at = put_entry(l, n, 0, 8 + 8 * n, b'd', b"/", b"");
-    for i in 1..n {
-        at = put_file(l, n, i, at);
-    }
-    put_sizes(l, n, at);
-    at
-}
-
-fn many(n: usize) -> u8
-    requires { n < 1500 }
-{
-    let mut l = [0u8; 16384];
-    let end = put_files(&mut l, n);
-    number_of(&l, end)
-}
-
-// The root and a manifest, k bytes in all.
-fn whole(k: usize) -> u8
-    requires { (37 < k) × (k < 70000) }
-{
-    let mut l = [b' '; 65537];
-    put_entry(&mut l, 2, 0, 24, b'd', b"/", b"");
-    put_entry(&mut l, 2, 1, 25, b'f', b"/package.json", b"");
-    put_number(&mut l, 20, k - 38);
-    put_sizes(&mut l, 2, k);
-    number_of(&l, k)
-}
-
-// One line of a table: 0 and a path that is absent, 1 and a directory's, 2 and a file's with "=" and its contents.
-fn has(l: &[u8], kind: u8, path: &[u8], inner: &[u8]) -> bool {
-    let f = listing::search(l, path);
-    match f {
-        Found::Absent => kind == b'0',
-        Found::Directory => kind == b'1',
-        Found::File { start: a, end: e } => {
-            if kind != b'2' {
-                return false;
+fn altered(alloc: Global, change: &Change) -> Result<Vec<u8>, AllocError> {
+    let mut listing = listing_of(alloc, ALTERED)?;
+    match *change {
+        Change::Number(at, x) => {
+            if let Some((_, rest)) = listing.as_mut_slice().split_at_mut_checked(at)
+                && let Some(place) = rest.first_chunk_mut()
+            {
+                *place = x.to_le_bytes();
             }
-            text::equal(listing::contents(l, a, e), inner)
         }
+        Change::OneMore => listing.push(0)?,
+        Change::OneLess => {
+            let _ = listing.pop();
+        }
+    }
+    Ok(listing)
+}
+
+// The root and a file whose path has so many bytes.
+fn put_long_path(writer: &mut Writer, alloc: Global, size: usize) -> Result<(), AllocError> {
+    let mut path = vec![in alloc; b'a'; size]?;
+    if let Some(first) = path.first_mut() {
+        *first = b'/';
+    }
+    writer.directory(b"/")?;
+    writer.file(&path, b"")
+}
+
+// The root, and below it directories, each in the one before.
+fn put_nested(writer: &mut Writer, alloc: Global, depth: usize) -> Result<(), AllocError> {
+    let mut path = Vec::new(alloc);
+    writer.directory(b"/")?;
+    for _ in 0..depth {
+        path.extend_from_slice(b"/a")?;
+        writer.directory(&path)?;
+    }
+    Ok(())
+}
+
+// The root and files, so many entries in all. A name is a number with two digits of base 64.
+fn put_files(writer: &mut Writer, entries: usize) -> Result<(), AllocError> {
+    let digit = |n: usize| b'0' + (n % 64) as u8;
+    writer.directory(b"/")?;
+    for i in 1..entries {
+        writer.file(&[b'/', digit(i / 64), digit(i)], b"")?;
+    }
+    Ok(())
+}
+
+// The root and a manifest, so many bytes in all.
+fn put_whole(writer: &mut Writer, alloc: Global, size: usize) -> Result<(), AllocError> {
+    let contents = vec![in alloc; b' '; size.saturating_sub(38)]?;
+    writer.directory(b"/")?;
+    writer.file(b"/package.json", &contents)
+}
+
+fn sized(alloc: Global, size: &Size) -> Result<Vec<u8>, AllocError> {
+    let mut writer = Writer::new(alloc);
+    match *size {
+        Size::Path(n) => put_long_path(&mut writer, alloc, n)?,
+        Size::Depth(n) => put_nested(&mut writer, alloc, n)?,
+        Size::Entries(n) => put_files(&mut writer, n)?,
+        Size::Whole(n) => put_whole(&mut writer, alloc, n)?,
+    }
+    writer.written(alloc)
+}
+
+fn is_found(listing: &[u8], sought: &Sought) -> bool {
+    match *sought {
+        Sought::Absent(path) => matches!(listing::search(listing, path), Found::Absent),
+        Sought::Directory(path) => matches!(listing::search(listing, path), Found::Directory),
+        Sought::File(path, contents) => match listing::search(listing, path) {
+            Found::File { start, end } => listing::contents(listing, start, end) == contents,
+            _ => false,
+        },
     }
 }
 
-fn has_line(l: &[u8], line: &[u8]) -> bool {
-    let cut = text::find(line, b'=', 1);
-    if cut >= line.len() {
-        if line.len() < 1 {
-            return false;
-        }
-        return has(l, line[0], &line[1..], b"");
-    }
-    if cut < 1 {
-        return false;
-    }
-    let from = cut + 1;
-    has(l, line[0], &line[1..cut], &line[from..])
+fn report_found(rt: &impl Print, name: &str, listing: &[u8], rows: &[Sought]) -> io::Result<()> {
+    report(rt, name, rows, |sought| Ok(is_found(listing, sought)))
 }
 
-fn searches(l: &[u8], table: &[u8]) -> usize {
-    let mut n: usize = 0;
-    let mut from: usize = 0;
-    while from < table.len() {
-        let end = text::find(table, b'\n', from);
-        if end < from {
-            return n;
-        }
-        if end >= table.len() {
-            return n;
-        }
-        if !has_line(l, &table[from..end]) {
-            return n;
-        }
-        from = end + 1;
-        n += 1;
-    }
-    n
-}
-
-fn searches_of(lines: &[u8], less: usize, table: &[u8]) -> usize {
-    let mut l = [0u8; 4096];
-    let end = build(&mut l, lines);
-    if end > 4096 {
-        return 0;
-    }
-    if less > end {
-        return 0;
-    }
-    let short = end - less;
-    searches(&l[0..short], table)
+// In what is left of a listing without its last bytes.
+fn report_searches(
+    rt: &(impl Print + AllocGlobal),
+    name: &str,
+    entries: &[Entry],
+    less: usize,
+    rows: &[Sought],
+) -> io::Result<()> {
+    let listing = listing_of(rt.alloc(), entries)?;
+    let rest = text::part(&listing, 0, listing.len().saturating_sub(less));
+    report_found(rt, name, rest, rows)
 }
 
 // Whether a file's contents stand there.
-fn stands(lines: &[u8], path: &[u8], start: usize, end: usize) -> bool {
-    let mut l = [0u8; 4096];
-    let last = build(&mut l, lines);
-    if last > 4096 {
-        return false;
-    }
-    let f = listing::search(&l[0..last], path);
-    match f {
-        Found::Absent => false,
-        Found::Directory => false,
-        Found::File { start: a, end: e } => {
-            if a != start {
-                return false;
-            }
-            e == end
-        }
+fn stands(listing: &[u8], path: &[u8], wanted_start: usize, wanted_end: usize) -> bool {
+    match listing::search(listing, path) {
+        Found::File { start, end } => start == wanted_start && end == wanted_end,
+        _ => false,
     }
 }
 
-// Two files with contents between two without.
-fn places() -> usize {
-    let lines = b"d/\nf/a\nf/b=xy\nf/c=z\nf/d\n";
-    if !stands(lines, b"/a", 51, 51) {
-        return 0;
-    }
-    if !stands(lines, b"/b", 53, 55) {
-        return 1;
-    }
-    if !stands(lines, b"/c", 57, 58) {
-        return 2;
-    }
-    if !stands(lines, b"/d", 60, 60) {
-        return 3;
-    }
-    4
+fn checks(rt: &(impl Print + AllocGlobal)) -> io::Result<()> {
+    let alloc = rt.alloc();
+    report_cuts(rt)?;
+    report(
+        rt,
+        "sizes",
+        CHANGES,
+        |(change, wanted)| Ok(listing_check::check(&altered(alloc, change)?) == *wanted),
+    )?;
+    report(
+        rt,
+        "limits",
+        LIMITS,
+        |(size, wanted)| Ok(listing_check::check(&sized(alloc, size)?) == *wanted),
+    )?;
+    report_checks(rt, "accepted", ACCEPTED, Ok(()))?;
+    report_checks(rt, "30", BAD_SIZES, Err(Refusal::Sizes))?;
+    report_checks(rt, "31, paths", BAD_PATHS, Err(Refusal::Order))?;
+    report_checks(rt, "31, order", BAD_ORDER, Err(Refusal::Order))?;
+    report_checks(
+        rt,
+        "32",
+        MANIFEST_DIRECTORIES,
+        Err(Refusal::ManifestDirectory),
+    )
 }
 
-// A good listing with another number at one place; one byte more or less at its end.
-fn altered(at: usize, x: usize, more: usize) -> u8
-    requires { (at < 100) × (more < 3) }
-{
-    let mut l = [0u8; 4096];
-    let end = build(&mut l, b"d/\nd/a\nf/a/package.json={}\n");
-    put_number(&mut l, at, x);
-    if end > 1000 {
-        return 1;
-    }
-    if end < 1 {
-        return 1;
-    }
-    number_of(&l, end + more - 1)
+fn searches(rt: &(impl Print + AllocGlobal)) -> io::Result<()> {
+    report_searches(rt, "search", PRINTED, 0, SEARCHED)?;
+    report_searches(rt, "search, cut in contents", PRINTED, 10, CUT_IN_CONTENTS)?;
+    report_searches(rt, "search, cut in a path", PRINTED, 40, CUT_IN_PATH)?;
+    report_searches(rt, "search, cut in marks", PRINTED, 180, CUT_IN_MARKS)?;
+    report_searches(rt, "search, cut in a mark", PRINTED, 181, CUT_IN_MARK)?;
+    report_searches(rt, "search, cut in lengths", PRINTED, 190, CUT_IN_LENGTHS)?;
+    report_searches(rt, "search, falling", FALLING, 0, FALLING_SEARCHED)?;
+    report_searches(
+        rt,
+        "search, equal paths",
+        EQUAL_PATHS,
+        0,
+        EQUAL_PATHS_SEARCHED,
+    )?;
+    report_searches(rt, "search, beginnings", BEGINNINGS, 0, BEGINNINGS_SEARCHED)?;
+    report_searches(
+        rt,
+        "search, empty paths first",
+        EMPTY_FIRST,
+        0,
+        EMPTY_FIRST_SEARCHED,
+    )?;
+    report_searches(
+        rt,
+        "search, an empty path last",
+        EMPTY_LAST,
+        0,
+        EMPTY_LAST_SEARCHED,
+    )?;
+    report_searches(
+        rt,
+        "search, far in common",
+        FAR_IN_COMMON,
+        0,
+        FAR_IN_COMMON_SEARCHED,
+    )
 }
 
-fn sizes() -> usize {
-    if altered(0, 3, 1) != 0 {
-        return 0;
-    }
-    // the count: none, one more, one less, the most that 32 bits hold
-    if altered(0, 0, 1) != 30 {
-        return 1;
-    }
-    if altered(0, 4, 1) != 30 {
-        return 2;
-    }
-    if altered(0, 2, 1) != 30 {
-        return 3;
-    }
-    if altered(0, 4294967295, 1) != 30 {
-        return 4;
-    }
-    // the text length, a path length, a contents length, a directory that becomes a file
-    if altered(4, 19, 1) != 30 {
-        return 5;
-    }
-    if altered(8, 2, 1) != 30 {
-        return 6;
-    }
-    if altered(28, 1, 1) != 30 {
-        return 7;
-    }
-    if altered(24, 1, 1) != 30 {
-        return 8;
-    }
-    // a byte more, a byte less
-    if altered(0, 3, 2) != 30 {
-        return 9;
-    }
-    if altered(0, 3, 0) != 30 {
-        return 10;
-    }
-    11
-}
-
-fn limits() -> usize {
-    if long_path(1024) != 0 {
-        return 0;
-    }
-    if long_path(1025) != 30 {
-        return 1;
-    }
-    if nested(32) != 0 {
-        return 2;
-    }
-    if nested(33) != 30 {
-        return 3;
-    }
-    if many(1024) != 0 {
-        return 4;
-    }
-    if many(1025) != 30 {
-        return 5;
-    }
-    if whole(65536) != 0 {
-        return 6;
-    }
-    if whole(65537) != 30 {
-        return 7;
-    }
-    8
+fn places(rt: &(impl Print + AllocGlobal)) -> io::Result<()> {
+    let listing = listing_of(rt.alloc(), FILES)?;
+    report(rt, "search, places", PLACES, |(path, start, end)| {
+        Ok(stands(&listing, path, *start, *end))
+    })
 }
 
 fn main(rt: HostRuntime) -> io::Result<()> {
-    let printed =
-        b"d/\nd/p\nd/p/node_modules\nd/p/node_modules/mat\nd/p/node_modules/mat/lib\nf/p/node_modules/mat/lib/steel.js\nf/p/node_modules/mat/package.json={\"exports\":{\"./*\":\"./lib/*.js\"}}\n";
-    report(&rt, "cut off", cuts(printed), 220)?;
-    report(&rt, "sizes", sizes(), 11)?;
-    report(&rt, "limits", limits(), 8)?;
-    // names with dots and beyond ASCII, an empty manifest, a name that "/" sorts before, a longer name than package.json
-    report(
-        &rt,
-        "accepted",
-        cases(
-            b"d/\n;d/\nf/...\nf/..a\nf/.a\n;d/\nf/\xc3\xa9\nf/\xf0\x9f\x98\x80\n;d/\nf/package.json\n;d/\nd/a\nf/a-b\nf/a/b\n;d/\nd/xpackage.json\n;",
-            0,
-        ),
-        6,
-    )?;
-    // no entry; contents elsewhere than in a manifest, alone and beside 31 and 32
-    report(
-        &rt,
-        "30",
-        cases(
-            b";d/\nf/a=x\n;d/\nf/xpackage.json=x\n;d/\nf/b\nf/a=x\n;d/\nf/a=x\nd/package.json\n;",
-            30,
-        ),
-        5,
-    )?;
-    // the first entry; empty, relative, "/" at the end or twice; dots; byte 0; not UTF-8
-    report(
-        &rt,
-        "31, paths",
-        cases(
-            b"d/a\n;f/\n;f\n;d/\nf\n;d/\nfa\n;d/\nd/a\nd/a/\n;d/\nf//a\n;d/\nd/a\nf/a//b\n;d/\nd/.\n;d/\nd/..\n;d/\nd/a\nf/a/.\n;d/\nd/a\nd/a/..\n;d/\nf/a\x00b\n;d/\nf/\xff\n;d/\nf/a\xc3\n;d/\nf/\xed\xa0\x80\n;",
-            31,
-        ),
-        16,
-    )?;
-    // order; twice the same; no parent; a file as parent; all beside 32
-    report(
-        &rt,
-        "31, order",
-        cases(
-            b"d/\nf/b\nf/a\n;d/\nf/a\nf/a\n;d/\nd/\n;d/\nd/ab\nf/a/c\n;d/\nf/a/b\n;d/\nd/a\nd/a/b\nf/ab\nf/b/c\n;d/\nd/a\nf/a/b/c\n;d/\nf/a\nf/a/b\n;d/\nd/a\nf/a-b\nf/a-b/c\n;d/\nd/package.json\nd/a\n;",
-            31,
-        ),
-        10,
-    )?;
-    report(
-        &rt,
-        "32",
-        cases(
-            b"d/\nd/package.json\n;d/\nd/a\nd/a/package.json\n;d/\nd/package.json\nf/package.json/a\n;",
-            32,
-        ),
-        3,
-    )?;
-    report(
-        &rt,
-        "search",
-        searches_of(
-            printed,
-            0,
-            b"1/\n1/p\n0/q\n0\n0/p/\n0/p/node_module\n1/p/node_modules\n1/p/node_modules/mat/lib\n2/p/node_modules/mat/lib/steel.js\n2/p/node_modules/mat/package.json={\"exports\":{\"./*\":\"./lib/*.js\"}}\n0/p/package.json\n",
-        ),
-        11,
-    )?;
-    // where bytes are missing, an entry ends where they end, and missing lengths count as zeros
-    report(
-        &rt,
-        "search, cut in contents",
-        searches_of(
-            printed,
-            10,
-            b"1/p\n2/p/node_modules/mat/package.json={\"exports\":{\"./*\":\"./l\n0/q\n0\n",
-        ),
-        4,
-    )?;
-    report(
-        &rt,
-        "search, cut in a path",
-        searches_of(
-            printed,
-            40,
-            b"1/p\n2/p/node_modules/mat/pack\n0/p/node_modules/mat/package.json\n",
-        ),
-        3,
-    )?;
-    // the arrays: a first mark that is whole, one byte short, and missing
-    report(
-        &rt,
-        "search, cut in marks",
-        searches_of(printed, 180, b"1\n0/\n0/p\n"),
-        3,
-    )?;
-    report(
-        &rt,
-        "search, cut in a mark",
-        searches_of(printed, 181, b"2\n0/\n"),
-        2,
-    )?;
-    report(
-        &rt,
-        "search, cut in lengths",
-        searches_of(printed, 190, b"2\n0/\n0/p\n"),
-        3,
-    )?;
-    // paths that do not rise: the first path not below the one sought decides
-    report(
-        &rt,
-        "search, falling",
-        searches_of(b"d/\nf/c\nf/b\nf/a\n", 0, b"1/\n2/c\n0/b\n0/a\n0/d\n"),
-        5,
-    )?;
-    report(
-        &rt,
-        "search, equal paths",
-        searches_of(
-            b"d/\nf/a=x\nf/a=y\nd/b\nf/b=z\nf/a=x\n",
-            0,
-            b"2/a=x\n1/b\n0/c\n",
-        ),
-        3,
-    )?;
-    report(
-        &rt,
-        "search, beginnings",
-        searches_of(
-            b"f/ab=x\nf/a=y\nf/abc=z\n",
-            0,
-            b"2/ab=x\n0/a\n2/abc=z\n0/abcd\n0/\n",
-        ),
-        5,
-    )?;
-    report(
-        &rt,
-        "search, empty paths first",
-        searches_of(b"f=x\nf=y\nd/\n", 0, b"2=x\n1/\n"),
-        2,
-    )?;
-    report(
-        &rt,
-        "search, an empty path last",
-        searches_of(b"d/\nf=x\n", 0, b"0\n1/\n"),
-        2,
-    )?;
-    // over 32 bytes in common
-    report(
-        &rt,
-        "search, far in common",
-        searches_of(
-            b"f/p/node_modules/element-beam/lib/b.js=x\nf/p/node_modules/element-beam/lib/a.js=y\nf/p/node_modules/element-beam/lib/c.js=z\n",
-            0,
-            b"2/p/node_modules/element-beam/lib/b.js=x\n0/p/node_modules/element-beam/lib/a.js\n2/p/node_modules/element-beam/lib/c.js=z\n0/p/node_modules/element-beam/lib\n",
-        ),
-        4,
-    )?;
-    report(&rt, "search, places", places(), 4)?;
-    report(&rt, "search, no bytes", searches(b"", b"0/\n0\n"), 2)?;
-    report(&rt, "search, one byte", searches(b"\x01", b"0/\n2\n"), 2)
+    checks(&rt)?;
+    searches(&rt)?;
+    places(&rt)?;
+    report_found(&rt, "search, no bytes", b"", NO_BYTES)?;
+    report_found(&rt, "search, one byte", b"\x01", ONE_BYTE)
 }

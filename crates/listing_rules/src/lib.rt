@@ -13,33 +13,25 @@ ghost use Rattle.listing_rules.specs.Meaning.{Plain, Ended, Named};
 pub fn is_manifest(p: &[u8]) -> bool
     ensures { result ≡ is_manifest p.now }
 {
-    if p.len() < 12 {
+    let Some(k) = p.len().checked_sub(12) else {
         return false;
-    }
-    let k = p.len() - 12;
-    if !text::equal(&p[k..], b"package.json") {
-        return false;
-    }
-    if k == 0 {
-        return true;
-    }
-    p[k - 1] == b'/'
+    };
+    text::equal(&p[k..], b"package.json") && (k == 0 || p[k - 1] == b'/')
 }
 
 // The sum of all lengths.
 fn lengths(l: &[u8], n: usize) -> usize
-    requires { (n ≡ entry_count l.now) × (n ≤ 1024) × (8 + 8 * n ≤ length l.now) }
+    requires count { n ≡ entry_count l.now }
+    requires few { n ≤ 1024 }
+    requires tables { 8 + 8 * n ≤ length l.now }
     ensures { result ≡ lengths_at l.now 0 }
 {
-    let mut sum: usize = 0;
-    let mut i = 0;
-    while i < n {
+    let mut sum = 0;
+    for i in 0..n {
         let j = 8 + 4 * i;
-        let k = listing::read_number(&l[j..j + 4]);
-        let from = 8 + 4 * n + 4 * i;
-        let c = listing::read_number(&l[from..from + 4]);
-        sum += k + listing::contents_length(c);
-        i += 1;
+        let k = 8 + 4 * n + 4 * i;
+        let c = listing::read_number(&l[k..k + 4]);
+        sum += listing::read_number(&l[j..j + 4]) + listing::contents_length(c);
     }
     sum
 }
@@ -48,18 +40,9 @@ fn lengths(l: &[u8], n: usize) -> usize
 pub fn sizes(l: &[u8]) -> bool
     ensures { result ≡ sizes_fit l.now }
 {
-    if l.len() > 65536 {
-        return false;
-    }
     let n = listing::read_number(l);
-    if n < 1 {
-        return false;
-    }
-    if n > 1024 {
-        return false;
-    }
     let t = listing::read_number(text::part(l, 4, 4));
-    if l.len() != 8 + 8 * n + t {
+    if l.len() > 65536 || n < 1 || n > 1024 || l.len() != 8 + 8 * n + t {
         return false;
     }
     lengths(l, n) == t
@@ -69,31 +52,13 @@ pub fn sizes(l: &[u8]) -> bool
 pub fn is_sized(path: &[u8], inner: &[u8]) -> bool
     ensures { (d : Bool) → result ≡ sized (record { path = path.entry.now; is_directory = d; contents = inner.now }) }
 {
-    if path.len() > 1024 {
-        return false;
-    }
-    if inner.len() == 0 {
-        return true;
-    }
-    is_manifest(path)
+    path.len() <= 1024 && (inner.is_empty() || is_manifest(path))
 }
 
 fn is_component(c: &[u8]) -> bool
     ensures { result ≡ is_component c.now }
 {
-    if c.len() == 0 {
-        return false;
-    }
-    if c[0] != b'.' {
-        return true;
-    }
-    if c.len() == 1 {
-        return false;
-    }
-    if c[1] != b'.' {
-        return true;
-    }
-    c.len() != 2
+    !c.is_empty() && !text::equal(c, b".") && !text::equal(c, b"..")
 }
 
 // A component that may stand in a path: most are plain, and need no further look at their bytes.
@@ -101,26 +66,14 @@ fn is_name(c: &[u8], plain: bool) -> bool
     requires { plain ≡ true → Plain c.now }
     ensures { result ≡ is_name c.now }
 {
-    if !is_component(c) {
-        return false;
-    }
-    if plain {
-        return true;
-    }
-    if text::contains(c, 0) {
-        return false;
-    }
-    utf8::is_utf8(c)
+    is_component(c) && (plain || !text::contains(c, 0) && utf8::is_utf8(c))
 }
 
 // ASCII, and not 0.
 fn is_plain(b: u8) -> bool
     ensures { result ≡ (ltb 0 b && ltb b 128) }
 {
-    if b == 0 {
-        return false;
-    }
-    b < 128
+    b != 0 && b < 128
 }
 
 // Where the last "/" of a path stands, or the path's end, and whether the bytes behind it are plain.
@@ -135,23 +88,15 @@ fn ending_of(q: &[u8]) -> Ending
     ensures { Ended q.now result }
 {
     let mut plain = true;
-    let mut i = q.len();
-    while 0 < i {
-        let b = q[i - 1];
-        if b == b'/' {
-            return Ending {
-                slash: i - 1,
-                plain: plain,
-            };
+    for i in (0..q.len()).rev() {
+        if q[i] == b'/' {
+            return Ending { slash: i, plain };
         }
-        if !is_plain(b) {
-            plain = false;
-        }
-        i -= 1;
+        plain = plain && is_plain(q[i]);
     }
     Ending {
         slash: q.len(),
-        plain: plain,
+        plain,
     }
 }
 
@@ -166,16 +111,8 @@ pub fn last_of(q: &[u8]) -> Last
     ensures { Named q.now result }
 {
     let e = ending_of(q);
-    let s = e.slash;
-    if s == q.len() {
-        return Last {
-            slash: s,
-            named: false,
-        };
-    }
-    let from = s + 1;
     Last {
-        slash: s,
-        named: is_name(&q[from..], e.plain),
+        slash: e.slash,
+        named: e.slash < q.len() && is_name(&q[e.slash + 1..], e.plain),
     }
 }

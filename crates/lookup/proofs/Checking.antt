@@ -5,25 +5,26 @@ use mathlib.Core.List.{List}
 use mathlib.Core.Option.{Option, none, some}
 use Prim.Native.Nat.{ℕ, ◌≤◌, ◌<◌}
 use borrow.Author.Tests.{le-leb, lt-leb}
-use Rattle.std.specs.Prelude.{if◌then◌else◌}
+use Rattle.std.specs.Prelude.{if◌then◌else◌, Result, Ok, Err}
 use Rattle.definition.specs.Specifier.{is_specifier}
 use Rattle.definition.specs.Listing.{is_directory_of, passes30, passes31, passes32}
 use Rattle.definition.specs.Settings.{passes24}
 use Rattle.definition.specs.Called.{Question, Rooms, check, refusal_of}
-use Rattle.listing_check.specs.declared.Checked.{Checked}
-use Rattle.listing_check.specs.declared.Checked.TheVariants.{Accepted, Refused}
+use Rattle.refusal.specs.declared.Refusal.{Refusal}
+use Rattle.refusal.specs.declared.Refusal.TheVariants.{Sizes, Order, ManifestDirectory}
+use Rattle.refusal.specs.Numbers.{number_of}
 use Rattle.listing_check.specs.Meaning.{verdict}
 use Rattle.output.specs.Meaning.{refusal_by}
 
-abbrev or_else : Checked → Option ℕ → Option ℕ
-or_else Accepted rest = rest
-or_else (Refused n) rest = some n
+abbrev or_else : Result (Unit {0}) Refusal → Option ℕ → Option ℕ
+or_else (Ok u) rest = rest
+or_else (Err r) rest = some (number_of r)
 
 by_verdict : (l : List ℕ) (rest : Option ℕ) → check (passes30 l) 30 (check (passes31 l) 31 (check (passes32 l) 32 rest)) ≡ or_else (verdict l) rest
 unfolding verdict
 by_verdict l rest = by (passes30 l) (passes31 l) (passes32 l)
   where
-    by : (a b c : Bool) → check a 30 (check b 31 (check c 32 rest)) ≡ or_else (if a then if b then if c then Accepted else Refused 32 else Refused 31 else Refused 30) rest
+    by : (a b c : Bool) → check a 30 (check b 31 (check c 32 rest)) ≡ or_else (if a then if b then if c then Ok tt else Err ManifestDirectory else Err Order else Err Sizes) rest
     by false b c = refl
     by true false c = refl
     by true true false = refl
@@ -39,12 +40,12 @@ module _ (q : Question) (m : Rooms) where
     unfolding refusal_of
     by_settings h = rw (le-leb 32768 m.work w, ← h)
 
-    module _ (s : true ≡ passes24 q.settings) (o : Checked) (v : o ≡ verdict q.listing) where
-      pub by_listing : (n : ℕ) → o ≡ Refused n → refusal_by o ≡ refusal_of q m
+    module _ (s : true ≡ passes24 q.settings) (o : Result (Unit {0}) Refusal) (v : o ≡ verdict q.listing) where
+      pub by_listing : (r : Refusal) → o ≡ Err r → some (number_of r) ≡ refusal_of q m
       unfolding refusal_of
-      by_listing n h = rw (le-leb 32768 m.work w, ← s, by_verdict, ← v, h)
+      by_listing r h = rw (le-leb 32768 m.work w, ← s, by_verdict, ← v, h)
 
-      module _ (a : o ≡ Accepted) where
+      module _ (a : o ≡ Ok tt) where
         pub by_specifier : false ≡ is_specifier q.specifier → some 22 ≡ refusal_of q m
         unfolding refusal_of
         by_specifier h = rw (le-leb 32768 m.work w, ← s, by_verdict, ← v, a, ← h)

@@ -3,7 +3,7 @@
 
 ghost use Rattle.std.specs.Prelude.{◌≡◌, length};
 ghost use Rattle.definition.specs.Called.{called};
-ghost use Rattle.lookup.specs.Meaning.{question_of, exported, in_counts};
+ghost use Rattle.lookup.specs.Meaning.{asked, exported, in_counts};
 ghost use Rattle.output.specs.Meaning.{rooms_of};
 
 // `lookup::hannuvozh_lookup` under its name for C.
@@ -20,7 +20,7 @@ pub extern "C" fn hannuvozh_lookup(
     work: &mut [u8],
     counts: &mut [u32; 4],
 ) -> u32
-    ensures { exported result counts.new res.new list_numbers.new list_text.new work.new ≡ in_counts (called (question_of listing.now settings.now start.now specifier.now limit) (rooms_of res.old list_numbers.old list_text.old (length work.old))) }
+    ensures { exported result counts.new res.new list_numbers.new list_text.new work.new ≡ in_counts (called (asked listing.now settings.now start.now specifier.now limit) (rooms_of res.old list_numbers.old list_text.old (length work.old))) }
 {
     lookup::hannuvozh_lookup(
         listing,

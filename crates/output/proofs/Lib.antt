@@ -1,4 +1,5 @@
 pub mod Spreading
 pub mod TextLengths
+pub mod Endings
 pub mod Filling
 pub mod Delivering

@@ -1,2 +1,3 @@
 pub mod Meaning
 pub mod Walked
+pub mod Left

@@ -7,6 +7,8 @@ use Rattle.definition.specs.Settings.{Settings}
 use Rattle.definition.specs.Ask.{◌>>=◌}
 use Rattle.definition.specs.Manifest.{resolve_exports}
 use Rattle.definition.specs.Walk.{Look, given, never, RESOLVE_ESM_MATCH}
+use Rattle.refusal.specs.declared.Refusal.{Refusal}
+use Rattle.refusal.specs.declared.Refusal.TheVariants.{Specifier}
 use Rattle.directory.specs.Refusals.{room_in, or_longer}
 
 unfoldable pub match_exports : Settings → (spec dir subpath : Text) → Json → Look (Unit {0})
@@ -14,6 +16,6 @@ match_exports G spec dir subpath j = do
   w ← given (resolve_exports G j dir subpath)
   never (RESOLVE_ESM_MATCH G spec w)
 
--- 25 by the work memory, or else 22: a text has more than 512 bytes
-abbrev pub room_for : (work text : ℕ) → Option ℕ
-room_for w n = or_longer 22 512 n (room_in w)
+-- the work memory is too short, or else a text has more than 512 bytes
+abbrev pub room_for : (work text : ℕ) → Option Refusal
+room_for w n = or_longer Specifier 512 n (room_in w)

@@ -12,234 +12,124 @@
 //   element   text, i, manifest: the text of the root's i-th element
 #![tactic(auto)]
 
-ghost use Rattle.std.specs.Prelude.{◌≤◌};
+use anyhow::{Context, Result, bail};
+use package_json::Kind;
+use std::alloc::{AllocError, Global};
 
-use package_json::{Cursor, Kind};
-use std::io;
-use std::io::{Read, Write};
-
-// As many bytes of standard input are read.
-const MOST: u64 = 65536;
-
-// The next place; no text here is as long as that.
-fn next(at: usize) -> usize {
-    if at < 100000 {
-        return at + 1;
+// The bytes that a field stands for.
+fn expanded(alloc: Global, field: &str) -> Result<Vec<u8>> {
+    let mut bytes = Vec::new(alloc);
+    let mut pieces = field.split('~');
+    if let Some(first) = pieces.next() {
+        bytes.extend_from_slice(first.as_bytes())?;
     }
-    at
-}
-
-// The i-th byte, 0 past the end.
-fn byte(t: &[u8], i: usize) -> u8 {
-    if i >= t.len() {
-        return 0;
+    for piece in pieces {
+        let (digits, others) = piece.split_at_checked(2).context("an escape is cut off")?;
+        bytes.push(u8::from_str_radix(digits, 16)?)?;
+        bytes.extend_from_slice(others.as_bytes())?;
     }
-    t[i]
+    Ok(bytes)
 }
 
-fn field(row: &[u8], i: usize) -> &[u8] {
-    let mut at: usize = 0;
-    for _ in 0..i {
-        at = next(text::find(row, b'\t', at));
+// A head, a part so many times, and a tail.
+fn repeated(alloc: Global, head: &str, times: &str, part: &str, tail: &str) -> Result<Vec<u8>> {
+    let mut bytes = expanded(alloc, head)?;
+    let part = expanded(alloc, part)?;
+    for _ in 0..times.parse::<usize>()? {
+        bytes.extend_from_slice(&part)?;
     }
-    let end = text::find(row, b'\t', at);
-    text::part(row, at, end - at)
-}
-
-fn wide(b: u8) -> usize
-    ensures { result ≤ 255 }
-{
-    b as usize
-}
-
-// The decimal number that a text begins with.
-fn number(t: &[u8]) -> usize {
-    let mut n: usize = 0;
-    for b in t {
-        if *b < b'0' {
-            return n;
-        }
-        n = (10 * n + wide(*b - b'0')) % 100000;
-    }
-    n
-}
-
-fn hex(b: u8) -> u8 {
-    if b >= b'a' {
-        return (b - 87) % 16;
-    }
-    b % 16
-}
-
-fn put(out: &mut [u8], at: usize, b: u8) {
-    if at < out.len() {
-        out[at] = b;
-    }
-}
-
-// The byte that stands at a place of a field, or that an escape there stands for; and the bytes that it takes.
-fn meant(t: &[u8], i: usize) -> u8 {
-    let b = byte(t, i);
-    if b != b'~' {
-        return b;
-    }
-    let two = text::part(t, next(i), 2);
-    let high = hex(byte(two, 0)) % 16;
-    16 * high + hex(byte(two, 1)) % 16
-}
-
-fn width(b: u8) -> usize
-    ensures { (1 ≤ result) × (result ≤ 3) }
-{
-    if b == b'~' {
-        return 3;
-    }
-    1
-}
-
-// A field's text, from a place on; where it ends.
-fn expand(t: &[u8], out: &mut [u8], at: usize) -> usize {
-    let mut n = at;
-    let mut i: usize = 0;
-    while i < t.len() {
-        put(out, n, meant(t, i));
-        n = next(n);
-        i += width(t[i]);
-    }
-    n
-}
-
-// The same so many times.
-fn repeat(t: &[u8], times: usize, out: &mut [u8], at: usize) -> usize {
-    let mut n = at;
-    for _ in 0..times {
-        n = expand(t, out, n);
-    }
-    n
-}
-
-fn check_row(row: &[u8], m: &mut [u8]) -> bool {
-    let n = expand(field(row, 2), m, 0);
-    let n = repeat(field(row, 4), number(field(row, 3)), m, n);
-    let n = expand(field(row, 5), m, n);
-    let found = package_json::package_json_check(text::part(m, 0, n));
-    found as usize == number(field(row, 1))
+    bytes.extend_from_slice(&expanded(alloc, tail)?)?;
+    Ok(bytes)
 }
 
 // Whether a text is accepted, and no start of it.
-fn no_prefix(m: &[u8]) -> bool {
-    for k in 0..m.len() {
-        if package_json::package_json_check(text::part(m, 0, k)) != 7 {
-            return false;
+fn has_no_start(text: &[u8]) -> bool {
+    package_json::package_json_check(text) == 0
+        && (0..text.len()).all(|n| package_json::package_json_check(&text[..n]) == 7)
+}
+
+fn member_named(manifest: &[u8], name: &str) -> Option<usize> {
+    package_json::get(manifest, 0, name.as_bytes())
+}
+
+fn kind_letter(manifest: &[u8], at: usize) -> &str {
+    match package_json::kind_at(manifest, at) {
+        Some(Kind::Scalar) => "0",
+        Some(Kind::String) => "s",
+        Some(Kind::Array) => "a",
+        Some(Kind::Object) => "o",
+        None => "-",
+    }
+}
+
+// Whether the string at a place has the text; where there is none, whether the text is empty.
+fn has_text(manifest: &[u8], at: Option<usize>, wanted: &[u8]) -> bool {
+    let Some(at) = at else {
+        return wanted.is_empty();
+    };
+    let mut work = [0u8; 1024];
+    let text = json_text::read_text(manifest, at, &mut work);
+    json_text::text_at(manifest, &work, text) == wanted
+}
+
+fn is_expected(alloc: Global, row: &str) -> Result<bool> {
+    let fields: Vec<&str> = row.split('\t').collect(alloc)?;
+    Ok(match fields.as_slice() {
+        ["check", number, text] => {
+            package_json::package_json_check(&expanded(alloc, text)?) == number.parse()?
         }
-    }
-    package_json::package_json_check(m) == 0
-}
-
-fn prefixes_row(row: &[u8], m: &mut [u8]) -> bool {
-    let n = expand(field(row, 1), m, 0);
-    no_prefix(text::part(m, 0, n))
-}
-
-fn place(c: Cursor) -> usize {
-    match c {
-        Cursor::At(i) => i,
-        Cursor::Nothing => 99999,
-    }
-}
-
-fn letter_of(k: Kind) -> u8 {
-    match k {
-        Kind::Scalar => b'0',
-        Kind::String => b's',
-        Kind::Array => b'a',
-        Kind::Object => b'o',
-        Kind::Nothing => b'-',
-    }
-}
-
-// Whether the string at a place has the text of a field.
-fn has_text(m: &[u8], at: usize, wanted: &[u8]) -> bool {
-    let mut w = [0u8; 1024];
-    let mut x = [0u8; 64];
-    let t = json_text::read_text(m, at, &mut w);
-    let n = expand(wanted, &mut x, 0);
-    text::equal(json_text::text_at(m, &w, t), text::part(&x, 0, n))
-}
-
-// The rows of the readers: what is wanted, which member or element, and the manifest.
-fn reader_row(row: &[u8], buf: &mut [u8]) -> bool {
-    let n = expand(field(row, 3), buf, 0);
-    let m = text::part(buf, 0, n);
-    let which = field(row, 2);
-    let wanted = field(row, 1);
-    let asked = byte(row, 0);
-    match asked {
-        b'k' => {
-            let at = place(package_json::get(m, 0, which));
-            letter_of(package_json::kind_at(m, at)) == byte(wanted, 0)
+        ["check", number, head, times, part, tail] => {
+            let text = repeated(alloc, head, times, part, tail)?;
+            package_json::package_json_check(&text) == number.parse()?
         }
-        b't' => has_text(m, place(package_json::get(m, 0, which)), wanted),
-        b'n' => has_text(m, place(package_json::member(m, 0, number(which))), wanted),
-        b'e' => has_text(m, place(package_json::element(m, 0, number(which))), wanted),
-        _ => false,
-    }
+        ["prefixes", text] => has_no_start(&expanded(alloc, text)?),
+        ["kind", letter, name, manifest] => {
+            let manifest = expanded(alloc, manifest)?;
+            member_named(&manifest, name).map_or("-", |at| kind_letter(&manifest, at)) == *letter
+        }
+        ["text", text, name, manifest] => {
+            let manifest = expanded(alloc, manifest)?;
+            has_text(
+                &manifest,
+                member_named(&manifest, name),
+                &expanded(alloc, text)?,
+            )
+        }
+        ["name", text, i, manifest] => {
+            let manifest = expanded(alloc, manifest)?;
+            let member = package_json::member(&manifest, 0, i.parse()?);
+            has_text(&manifest, member, &expanded(alloc, text)?)
+        }
+        ["element", text, i, manifest] => {
+            let manifest = expanded(alloc, manifest)?;
+            let element = package_json::element(&manifest, 0, i.parse()?);
+            has_text(&manifest, element, &expanded(alloc, text)?)
+        }
+        _ => bail!("nothing is asked"),
+    })
 }
 
-fn is_expected(row: &[u8]) -> bool {
-    let mut m = [0u8; 20000];
-    let asked = byte(row, 0);
-    match asked {
-        b'c' => check_row(row, &mut m),
-        b'p' => prefixes_row(row, &mut m),
-        _ => reader_row(row, &mut m),
-    }
+fn report(rt: &impl Print, expected: usize) -> Result<()> {
+    println!(rt; ": {expected} as expected")?;
+    Ok(())
 }
 
-// One more row is as expected, or it is shown.
-fn tally(rt: &impl Print, n: usize, good: bool, row: &[u8]) -> io::Result<usize> {
-    if good {
-        return Ok(next(n));
-    }
-    print!(rt; "\nnot as expected: ")?;
-    io::writer(rt).write_all(row)?;
-    Ok(n)
-}
-
-fn report(rt: &impl Print, n: usize) -> io::Result<()> {
-    println!(rt; ": {n} as expected")
-}
-
-// A group's name, behind the group before it.
-fn open(rt: &impl Print, n: usize, at: usize, name: &[u8]) -> io::Result<()> {
-    if at > 0 {
-        report(rt, n)?;
-    }
-    io::writer(rt).write_all(name)
-}
-
-fn run(rt: &impl Print, rows: &[u8]) -> io::Result<()> {
-    let mut n: usize = 0;
-    let mut at: usize = 0;
-    while at < rows.len() {
-        let end = text::find(rows, b'\n', at);
-        let row = text::part(rows, at, end - at);
-        if byte(row, 0) == b'#' {
-            open(rt, n, at, text::part(row, 2, row.len()))?;
-            n = 0;
+fn main(rt: HostRuntime) -> Result<()> {
+    let alloc = rt.alloc();
+    let mut expected = None;
+    for line in rt.lines(alloc) {
+        let line = line?;
+        if let Some(name) = line.strip_prefix("# ") {
+            if let Some(n) = expected {
+                report(&rt, n)?;
+            }
+            print!(rt; "{name}")?;
+            expected = Some(0);
+        } else if is_expected(alloc, &line).context(format_args!("row {line:?}"))? {
+            expected = expected.map(|n: usize| n.saturating_add(1));
         } else {
-            n = tally(rt, n, is_expected(row), row)?;
+            print!(rt; "\nnot as expected: {line}")?;
         }
-        if end >= rows.len() {
-            break;
-        }
-        at = end + 1;
     }
-    report(rt, n)
-}
-
-fn main(rt: HostRuntime) -> io::Result<()> {
-    let mut rows = Vec::new(rt.alloc());
-    rt.reader().take(MOST).read_to_end(&mut rows)?;
-    run(&rt, &rows)
+    report(&rt, expected.unwrap_or(0))
 }

@@ -1,30 +1,17 @@
 -- The specifier of the second walk. Assumes nothing.
 use mathlib.Core.Path.{◌≡◌, refl, sym, ◌∙◌, ap}
-use Prim.Native.Nat.{ℕ, ◌≤◌}
+use Prim.Native.Nat.{ℕ}
 use mathlib.Core.Bool.{Bool, true, false}
 use mathlib.Core.List.{List, [], ◌++◌, append-nil}
-use native.Mathlib.Omega.{arith}
 use borrow.Author.Tests.{leb-true, leb-false}
 use lib.Dec.{leb}
-use lib.ListN.{length, take, length-take}
+use lib.ListN.{length}
 use Rattle.definition.specs.Text.{text, ends_with}
-use Rattle.definition.specs.Path.{Built, built, too_long, and_path, limited, add_extension, normalize_relative}
+use Rattle.definition.specs.Path.{Built, built, and_path, limited, add_extension, normalize_relative}
 use Rattle.laws.specs.PathLaws.{limited_fits, limited_long}
 use Rattle.definition.specs.Specifier.{normalized_specifier}
 use Rattle.path.specs.Meaning.{path_at}
-use Rattle.path.proofs.Steps.{at_fits, at_long}
-
--- the text of a path is within the limit
-path_fits : (b : List ℕ) (n : ℕ) (t : List ℕ) → path_at b n ≡ built t → limited t ≡ built t
-path_fits b n t e = go (leb n 2048) refl
-  where
-    go : (u : Bool) → leb n 2048 ≡ u → limited t ≡ built t
-    go true h =
-        let k : n ≤ 2048 = leb-true _ _ h in
-        let f : built (take n b) ≡ built t = sym (at_fits b n k) ∙ e in
-        let g : take n b ≡ t = cc in
-        limited_fits t (omega (arith, ap length g, length-take n b))
-    go false h = let f : too_long ≡ built t = sym (at_long b n (leb-false _ _ h)) ∙ e in cc
+use Rattle.path.proofs.Steps.{text_short}
 
 module _ (s : List ℕ) (x : Built) (e : x ≡ and_path (limited s) (λ q. built (normalize_relative q))) where
   pub slash_kept : ends_with (text "/") s ≡ true → and_path x (λ p. add_extension p (text "/")) ≡ and_path (limited s) (λ p. limited (normalized_specifier p))
@@ -43,6 +30,6 @@ no_slash s b n e h = go (leb (length s) 2048) refl
     go true k =
         let l = limited_fits s (leb-true _ _ k) in
         let f : path_at b n ≡ built (normalize_relative s) = rw l at e in
-        let g : limited (normalize_relative s ++ []) ≡ built (normalize_relative s) = ap limited (append-nil (normalize_relative s)) ∙ path_fits b n (normalize_relative s) f in
+        let g : limited (normalize_relative s ++ []) ≡ built (normalize_relative s) = ap limited (append-nil (normalize_relative s)) ∙ limited_fits (normalize_relative s) (text_short b n (normalize_relative s) f) in
         rw (l, h) (f ∙ sym g)
     go false k = let l = limited_long s (leb-false _ _ k) in rw l (rw l at e)

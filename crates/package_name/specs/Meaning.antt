@@ -1,10 +1,8 @@
 -- What the answers of the functions mean.
-use Rattle.std.specs.Prelude.{ℕ, List, drop}
-use Rattle.std.proofs.Math.Option.{Option, none, some}
-use Rattle.package_name.specs.declared.Stripped.{Stripped}
-use Rattle.package_name.specs.declared.Stripped.TheVariants.{At, Nothing}
+use Rattle.std.specs.Prelude.{ℕ, List, drop, Option, Some, None}
+use Rattle.std.proofs.Math.Option.{Option as Tail, none, some}
 
 -- the tail of a specifier
-abbrev pub tail_of : List ℕ → Stripped → Option (List ℕ)
-tail_of s (At i) = some (drop i s)
-tail_of s Nothing = none
+abbrev pub tail_of : List ℕ → Option ℕ → Tail (List ℕ)
+tail_of s (Some i) = some (drop i s)
+tail_of s None = none

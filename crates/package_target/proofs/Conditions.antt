@@ -1,19 +1,19 @@
 -- Conditions by their numbers: a name has one number, and a number below 256 one name.
 use mathlib.Core.Path.{◌≡◌, refl, sym, ◌∙◌, ap}
-use mathlib.Core.Bool.{Bool, true, false, ◌||◌}
+use mathlib.Core.Bool.{Bool, true, false, cond, not, ◌||◌}
 use mathlib.Core.List.{List, [], ◌∷◌}
 use Prim.Native.Nat.{ℕ, zero, suc, ◌+◌, ◌-◌, ◌<◌, ◌≤◌}
 use native.Mathlib.Omega.{arith}
 use lib.Dec.{ltb}
-use lib.ListN.{length, get_or, set, length-set, drop, drop_of_length-le, length-take}
-use lib.Seq.{drop-cons}
-use native.Mathlib.Numerals.{add-one}
-use borrow.Author.Tests.{lt-ltb, le-ltb}
-use Rattle.std.specs.Prelude.{if◌then◌else◌}
+use lib.ListN.{length, get_or, set, drop, replicate, length-take}
+use borrow.Author.Tests.{lt-ltb, le-ltb, ltb-true, ltb-false}
+use Rattle.std.specs.List.{position, position_or_len}
+use Rattle.std.specs.Prelude.{Some, None, if◌then◌else◌}
 use Rattle.definition.specs.Text.{Text, text, equal, is_one_of}
 use Rattle.definition.specs.Settings.{count_of, count_before, all_texts, texts_of}
 use Rattle.laws.specs.TextLaws.{equal_true}
-use Rattle.package_target.specs.Conditions.{place_in, condition_of, Turn}
+use Rattle.std.proofs.lemmas.List.{get_or-map, map-set}
+use Rattle.package_target.specs.Conditions.{place_in, condition_of, place_of, places, Turn}
 use Rattle.package_target.proofs.Places.{equal_sym}
 
 by : (u : Bool) {P : Type 0} → (u ≡ true → P) → (u ≡ false → P) → P
@@ -69,21 +69,43 @@ named cs k l = by (equal k (text "default")) (λ e. rw e (sym (equal_true k (tex
 pub same_condition : (cs : List Text) (k l : Text) → condition_of cs k < 256 → condition_of cs k ≡ condition_of cs l → k ≡ l
 same_condition cs k l a e = sym (named cs k a) ∙ ap (name_of cs) e ∙ named cs l (omega (arith, a, e))
 
--- the search for a name's number, from the i-th condition on
-module _ (k : Text) (cs : List Text) (i : ℕ) where
-  pub place_here : i < length cs → equal k (get_or cs i []) ≡ true → place_in (1 + i) (drop i cs) k ≡ 1 + i
+-- the place of a name is the first at which a test finds it
+module _ (k : Text) (p : Text → Bool) (e : (c : Text) → p c ≡ equal k c) where
+  place_len : (n : ℕ) (cs : List Text)
+      → (position_or_len p cs < length cs → place_in n cs k ≡ n + position_or_len p cs)
+      × (length cs ≤ position_or_len p cs → place_in n cs k ≡ 256)
   unfolding place_in
-  place_here l e = rw (drop-cons cs i [] l) (rw (equal_sym (get_or cs i []) k ∙ e))
+  place_len n [] = (λ h. absurd (let z : ⊥ = omega arith in z), λ h. refl)
+  place_len n (c ∷ cs) = go (p c) (equal_sym c k ∙ sym (e c)) (place_len (suc n) cs)
+    where
+      go : (b : Bool) → equal c k ≡ b
+          → (position_or_len p cs < length cs → place_in (suc n) cs k ≡ suc n + position_or_len p cs)
+          × (length cs ≤ position_or_len p cs → place_in (suc n) cs k ≡ 256)
+          → (cond (not b) (1 + position_or_len p cs) 0 < suc (length cs)
+          → (if equal c k then n else place_in (suc n) cs k) ≡ n + cond (not b) (1 + position_or_len p cs) 0)
+          × (suc (length cs) ≤ cond (not b) (1 + position_or_len p cs) 0
+          → (if equal c k then n else place_in (suc n) cs k) ≡ 256)
+      go true f g = (λ h. rw f (omega arith), λ h. absurd (let z : ⊥ = omega arith in z))
+      go false f g =
+          (λ h. rw f (let a = g.0 (omega arith) in omega (arith, a)), λ h. rw f (g.1 (omega arith)))
 
-  pub place_on : i < length cs → equal k (get_or cs i []) ≡ false → place_in (1 + i) (drop i cs) k ≡ place_in (1 + (i + 1)) (drop (i + 1) cs) k
-  unfolding place_in
-  place_on l e =
-      let z : suc (1 + i) ≡ 1 + suc i = omega arith in
-      rw (drop-cons cs i [] l, add-one i) (rw (equal_sym (get_or cs i []) k ∙ e) (ap (λ n. place_in n (drop (suc i) cs) k) z))
+  pub place_found : (cs : List Text) (i : ℕ) → Some i ≡ position p cs → (place_in 1 cs k ≡ 1 + i) × (i < length cs)
+  place_found cs i h = go (ltb (position_or_len p cs) (length cs)) refl h
+    where
+      go : (b : Bool) → ltb (position_or_len p cs) (length cs) ≡ b → Some i ≡ cond b (Some (position_or_len p cs)) None
+          → (place_in 1 cs k ≡ 1 + i) × (i < length cs)
+      go true f h =
+          let z : i ≡ position_or_len p cs = cc in
+          rw z ((place_len 1 cs).0 (ltb-true _ _ f), ltb-true _ _ f)
+      go false f h = absurd (let z : ◌≡◌ {A = ℕ} 0 1 = cc in omega arith)
 
-  pub place_end : length cs ≤ i → place_in (1 + i) (drop i cs) k ≡ 256
-  unfolding place_in
-  place_end l = rw (drop_of_length-le cs l)
+  pub place_none : (cs : List Text) → None ≡ position p cs → place_in 1 cs k ≡ 256
+  place_none cs h = go (ltb (position_or_len p cs) (length cs)) refl h
+    where
+      go : (b : Bool) → ltb (position_or_len p cs) (length cs) ≡ b → None ≡ cond b (Some (position_or_len p cs)) None
+          → place_in 1 cs k ≡ 256
+      go true f h = absurd (let z : ◌≡◌ {A = ℕ} 0 1 = cc in omega arith)
+      go false f h = (place_len 1 cs).1 (ltb-false _ _ f)
 
 pub is_default : (k : Text) (cs : List Text) → equal k (text "default") ≡ true → 0 ≡ condition_of cs k
 unfolding condition_of
@@ -98,22 +120,21 @@ pub counted : (s : List ℕ) → length (texts_of s 0) ≤ get_or s 0 0
 unfolding texts_of count_of
 counted s = omega (arith, length-take (get_or s 0 0) (drop (count_before s 0) (all_texts s)))
 
-pub none_counted : (s : List ℕ) → length s ≡ 0 → 0 ≡ length (texts_of s 0)
-none_counted [] l = let a = counted [] in omega arith
-none_counted (b ∷ s) l = absurd (let z : ⊥ = omega arith in z)
+-- tables of places
+pub none_written : (end n : ℕ) → places end (replicate n end) ≡ replicate n None
+none_written end zero = refl
+none_written end (suc n) = rw (le-ltb end end (omega arith)) (ap (λ y. None ∷ y) (none_written end n))
 
--- a table keeps its size
-pub put_size : (values left : List ℕ) (k v : ℕ) → left ≡ (if ltb k 256 then set values k v else values) → length values ≡ 256 → length left ≡ 256
-put_size values left k v e l = go (ltb k 256) e
-  where
-    go : (b : Bool) → left ≡ (if b then set values k v else values) → length left ≡ 256
-    go true e = ap length e ∙ length-set values k v ∙ l
-    go false e = ap length e ∙ l
+pub place_written : (end : ℕ) (values : List ℕ) (k v : ℕ) → v < end → places end (set values k v) ≡ set (places end values) k (Some v)
+place_written end values k v l = map-set (place_of end) values k v ∙ ap (λ y. set (places end values) k y) (rw (lt-ltb v end l))
 
--- the turn of a name
-module _ {end c k : ℕ} {values left : List ℕ} {place : ℕ} (e : c ≡ k) where
-  pub passed : 256 ≤ k → left ≡ values → place ≡ end → Turn end c values left place
-  passed l f g = let b = le-ltb k 256 l in record { taken = rw (e, b) g; others = rw (e, b) f }
+-- the turn of a condition
+module _ (end : ℕ) (values : List ℕ) (l : length values ≡ 256) where
+  no_place : place_of end end ≡ None
+  no_place = rw (le-ltb end end (omega arith))
 
-  pub took : k < 256 → left ≡ set values k end → place ≡ get_or values k 0 → Turn end c values left place
-  took l f g = let b = lt-ltb k 256 l in record { taken = rw (e, b) g; others = rw (e, b) f }
+  pub turn_taken : (k : ℕ) → k < 256 → Turn k (places end values) (places end (set values k end)) (place_of end (get_or values k 0))
+  turn_taken k h = record {
+    taken = sym (get_or-map (place_of end) values k 0 None (omega arith));
+    others = map-set (place_of end) values k end ∙ ap (λ y. set (places end values) k y) no_place;
+  }

@@ -1,4 +1,5 @@
 pub mod Places
+pub mod Walks
 pub mod Conditions
 pub mod Gathering
 pub mod Loops

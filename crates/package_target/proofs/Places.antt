@@ -13,24 +13,23 @@ use Rattle.definition.specs.Json.{Json, scalar, str, arr, obj, Elements, no_elem
 use Rattle.definition.specs.JsonAt as json
 use Rattle.definition.specs.JsonAt.{a_scalar, a_string, an_array, an_object, kind_at, first_member, first_element, next_element, member_value, next_member, is_text, name_is, text_at}
 use Rattle.laws.specs.JsonAtLaws as at
-use Rattle.laws.specs.JsonAtLaws.{members_there, no_members, elements_there, no_elements, text_shape, array_shape, object_shape, scalar_shape}
+use Rattle.laws.specs.JsonAtLaws.{members_there, no_members, elements_there, no_elements as at_no_elements, text_shape, array_shape, object_shape, scalar_shape}
 use Rattle.laws.specs.JsonSoundLaws.{quoted_sound}
-use Rattle.package_json.specs.declared.Cursor.{Cursor}
-use Rattle.package_json.specs.declared.Cursor.TheVariants.{At, Nothing}
+use Rattle.std.specs.Prelude.{Option, Some, None, unwrap_or, ◌⊎◌}
+use Rattle.std.proofs.Common.{inl, inr}
 use Rattle.json_text.specs.declared.TextAt.{TextAt}
-use Rattle.package_json.specs.declared.Kind as kind
 use Rattle.package_json.specs.Values as values
 use Rattle.package_json.proofs.Values.{text_written, array_written, object_written}
 use Rattle.package_json.specs.Cursors as cursors
 use Rattle.package_json.specs.Cursors.{placed}
 use Rattle.json_text.specs.Texts.{text_of, told, or_empty}
-use Rattle.package_target.specs.declared.Kind.{Kind}
-use Rattle.package_target.specs.declared.Kind.TheVariants.{Scalar, String, Array, Object}
+use Rattle.package_json.specs.declared.Kind.{Kind}
+use Rattle.package_json.specs.declared.Kind.TheVariants.{Scalar, String, Array, Object}
 use Rattle.targets.specs.Contexts.{read_text, string_at}
 use Rattle.targets.proofs.Contexts.{text_read}
 use Rattle.package_target.specs.Places.{Written, Stands, MembersAt, ElementsAt, MembersFrom, ElementsFrom, kind_of}
 
-none_of : {P : Type 0} → ⊥ → P
+pub none_of : {P : Type 0} → ⊥ → P
 none_of z = absurd z
 
 -- a value by its place in the manifest
@@ -51,18 +50,18 @@ none_members : {d n : ℕ} {ms : Members} → at.MembersFrom d n ms none → ms 
 none_members no_members = refl
 
 none_elements : {d n : ℕ} {js : Elements} → at.ElementsFrom d n js none → js ≡ no_element
-none_elements no_elements = refl
+none_elements at_no_elements = refl
 
-members_from : (m : List ℕ) (d n : ℕ) (ms : Members) (c : Cursor) → at.MembersFrom d n ms (placed m c) → MembersFrom m d n ms c
-members_from m d n ms (At i) (members_there h) = record { here = h }
-members_from m d n ms Nothing h = none_members h
+members_from : (m : List ℕ) (d n : ℕ) (ms : Members) (c : Option ℕ) → at.MembersFrom d n ms (placed m c) → MembersFrom m d n ms c
+members_from m d n ms (Some i) (members_there h) = record { here = h }
+members_from m d n ms None h = none_members h
 
-elements_from : (m : List ℕ) (d n : ℕ) (es js : Elements) (c : Cursor) → settled_elements es ≡ js → at.ElementsFrom d n es (placed m c) → ElementsFrom m d n js c
-elements_from m d n es js (At i) e (elements_there h) = record { written = es; here = h; means = e }
-elements_from m d n es js Nothing e h = sym e ∙ ap settled_elements (none_elements h) ∙ (unfold settled_elements in refl)
+elements_from : (m : List ℕ) (d n : ℕ) (es js : Elements) (c : Option ℕ) → settled_elements es ≡ js → at.ElementsFrom d n es (placed m c) → ElementsFrom m d n js c
+elements_from m d n es js (Some i) e (elements_there h) = record { written = es; here = h; means = e }
+elements_from m d n es js None e h = sym e ∙ ap settled_elements (none_elements h) ∙ (unfold settled_elements in refl)
 
 -- the first of what a bracket opens
-module _ (m : List ℕ) (i : ℕ) (c : Cursor) where
+module _ (m : List ℕ) (i : ℕ) (c : Option ℕ) where
   pub first_members : placed m c ≡ first_member (drop i m) → (d : ℕ) (ms : Members) → Written m (suc d) i (obj ms) → MembersFrom m d 128 ms c
   first_members e d ms h = members_from m d 128 ms c (rw e (at.first_member_lem h.here))
 
@@ -89,20 +88,6 @@ module _ (m : List ℕ) (i : ℕ) (c : Cursor) where
       let l : x.left ≡ n - 1 = omega (arith, x.count) in
       members_from m d (n - 1) ms c (rw e (rw (l, b) at x.next))
 
--- a member's value, and the next member behind it
-module _ (m : List ℕ) (i v : ℕ) (f : (s : List ℕ) → member_value (drop i m) ≡ some s → drop v m ≡ s) (d n : ℕ) (k : List ℕ) (j : Json) (ms : Members) (h : MembersAt m d n i (member k j ms)) where
-  pub value_stands : Written m d v j
-  value_stands =
-      let x = at.member_here h.here in
-      let a : x.first ≡ j = cc x.is in
-      record { here = rw (sym (f x.from x.place), a) at x.stands }
-
-  pub behind_value : (c : Cursor) → placed m c ≡ next_element (drop v m) → MembersFrom m d (n - 1) ms c
-  unfolding next_member
-  behind_value c e =
-      let x = at.member_here h.here in
-      next_member_is m i c (e ∙ rw (x.place, f x.from x.place)) d n k j ms h
-
 -- a value that is written stands for what it means, and stands within the manifest
 pub stands : {m : List ℕ} {d i : ℕ} {j : Json} → Written m d i j → Stands m d i (settled j)
 stands {j = j} h = record { written = j; there = h; means = refl }
@@ -115,28 +100,7 @@ written_inside m d i j h l = go d (rw (drop_of_length-le m l) at h.here.reads)
     go zero e = let z : ◌≡◌ {A = ℕ} 0 1 = cc in omega arith
     go (suc d) e = let z : ◌≡◌ {A = ℕ} 0 1 = cc in omega arith
 
--- a place that is there, or not
-pub no_value : (t s : List ℕ) → none ≡ some s → t ≡ s
-no_value t s e = none_of (let z : ◌≡◌ {A = ℕ} 0 1 = cc in omega arith)
-
-pub value_is : (t s : List ℕ) → some t ≡ some s → t ≡ s
-value_is t s e = cc
-
--- one member, one element
-pub record One (m : List ℕ) (d n i : ℕ) (ms : Members) : Type 0 where
-  pub name : List ℕ
-  pub val : Json
-  pub others : Members
-  pub is : ms ≡ member name val others
-  pub behind : List ℕ
-  pub quote : quoted (drop i m) ≡ got name behind
-
-pub one : {m : List ℕ} {d n i : ℕ} {ms : Members} → MembersAt m d n i ms → One m d n i ms
-one h = let x = at.member_here h.here in record { name = x.name; val = x.first; others = x.others; is = x.is; behind = x.end; quote = x.quote }
-
-pub none_left : {m : List ℕ} {d n i : ℕ} {ms : Members} → MembersAt m d n i ms → n ≡ 0 → ⊥
-none_left h e = let x = at.member_here h.here in omega (arith, x.count)
-
+-- one element
 pub record OneElement (m : List ℕ) (d n i : ℕ) (js : Elements) : Type 0 where
   pub val : Json
   pub others : Elements
@@ -147,8 +111,11 @@ one_of h =
     let x = at.element_here h.here in
     record { val = settled x.first; others = settled_elements x.others; is = unfold settled_elements in (sym h.means ∙ ap settled_elements x.is) }
 
-pub no_element_left : {m : List ℕ} {d n i : ℕ} {js : Elements} → ElementsAt m d n i js → n ≡ 0 → ⊥
-no_element_left h e = let x = at.element_here h.here in omega (arith, x.count)
+-- where the walk over elements ends, none is left
+pub no_elements : (m : List ℕ) (d n : ℕ) (js : Elements) (c : Option ℕ) → ElementsFrom m d n js c → (c ≡ None) ⊎ (n ≡ 0) → js ≡ no_element
+no_elements m d n js None h e = h
+no_elements m d n js (Some i) h (inl z) = none_of (let z : ◌≡◌ {A = ℕ} 0 1 = cc in omega arith)
+no_elements m d n js (Some i) h (inr z) = none_of (let x = at.element_here h.here in omega (arith, x.count))
 
 -- brackets need depth
 module _ (m : List ℕ) (d i : ℕ) where
@@ -198,15 +165,18 @@ kind_settled (str s) = refl
 kind_settled (arr js) = refl
 kind_settled (obj ms) = refl
 
-module _ (m : List ℕ) (i : ℕ) (r : kind.Kind) (e : cursors.kind_of r ≡ kind_at (drop i m)) where
-  pub kind_arm : (x : json.Kind) → cursors.kind_of r ≡ some x → (d : ℕ) (j : Json) → Stands m d i j → own_kind x ≡ kind_of j
-  kind_arm x f d j h =
-      let g = at.kind_here h.there.here in
-      let y : x ≡ at.kind_of h.written = cc in
-      ap own_kind y ∙ own_is h.written ∙ kind_settled h.written ∙ ap kind_of h.means
+-- the kind that the code finds, or else any
+kind_found : (r : Option Kind) (x : json.Kind) → cursors.kind_of r ≡ some x → unwrap_or r Scalar ≡ own_kind x
+kind_found (Some Scalar) x e = let z : a_scalar ≡ x = cc in ap own_kind z
+kind_found (Some String) x e = let z : a_string ≡ x = cc in ap own_kind z
+kind_found (Some Array) x e = let z : an_array ≡ x = cc in ap own_kind z
+kind_found (Some Object) x e = let z : an_object ≡ x = cc in ap own_kind z
+kind_found None x e = none_of (let z : ◌≡◌ {A = ℕ} 0 1 = cc in omega arith)
 
-  pub kind_none : cursors.kind_of r ≡ none → (d : ℕ) (j : Json) → Stands m d i j → Scalar ≡ kind_of j
-  kind_none f d j h = none_of (let g = at.kind_here h.there.here in let z : ◌≡◌ {A = ℕ} 0 1 = cc in omega arith)
+pub kind_is : (m : List ℕ) (i : ℕ) (r : Option Kind) → cursors.kind_of r ≡ kind_at (drop i m) → (d : ℕ) (j : Json)
+    → Stands m d i j → unwrap_or r Scalar ≡ kind_of j
+kind_is m i r e d j h =
+    kind_found r _ (e ∙ at.kind_here h.there.here) ∙ own_is h.written ∙ kind_settled h.written ∙ ap kind_of h.means
 
 -- the text of a string
 module _ {m : List ℕ} {d i : ℕ} {s : List ℕ} (h : Stands m d i (str s)) where
@@ -219,7 +189,7 @@ module _ {m : List ℕ} {d i : ℕ} {s : List ℕ} (h : Stands m d i (str s)) wh
   pub string_is : string_at m i ≡ s
   string_is = ap read_text (at.text_here text_there)
 
-  pub text_target : (w w' : List ℕ) (r : TextAt) (t : List ℕ) → 1024 ≤ length w → told m w' r ≡ text_at (drop i m) w → t ≡ or_empty (text_of m w' r) → t ≡ s
+  pub text_target : (w w' : List ℕ) (r : Option TextAt) (t : List ℕ) → 1024 ≤ length w → told m w' r ≡ text_at (drop i m) w → t ≡ or_empty (text_of m w' r) → t ≡ s
   text_target w w' r t l e f = f ∙ ap (λ z. or_empty z.text) e ∙ text_read (drop i m) w l ∙ string_is
 
 -- a key's name is a string too

@@ -1,3 +1,4 @@
 pub mod Places
+pub mod Walks
 pub mod Conditions
 pub mod Answers

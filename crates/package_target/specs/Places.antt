@@ -1,11 +1,9 @@
 -- Where a value, the members of an object and the elements of an array stand in a manifest m: at a place, or at a cursor.
-use Rattle.std.specs.Prelude.{◌≡◌, ℕ, List, drop}
+use Rattle.std.specs.Prelude.{◌≡◌, ℕ, List, Option, Some, None, drop}
 use Rattle.definition.specs.Json.{Json, scalar, str, arr, obj, Elements, no_element, Members, no_member, settled, settled_elements}
 use Rattle.laws.specs.JsonAtLaws as at
-use Rattle.package_json.specs.declared.Cursor.{Cursor}
-use Rattle.package_json.specs.declared.Cursor.TheVariants.{At, Nothing}
-use Rattle.package_target.specs.declared.Kind.{Kind}
-use Rattle.package_target.specs.declared.Kind.TheVariants.{Scalar, String, Array, Object}
+use Rattle.package_json.specs.declared.Kind.{Kind}
+use Rattle.package_json.specs.declared.Kind.TheVariants.{Scalar, String, Array, Object}
 
 -- a value as it is written
 pub record Written (m : List ℕ) (d i : ℕ) (j : Json) : Type 0 where
@@ -26,13 +24,13 @@ pub record ElementsAt (m : List ℕ) (d n i : ℕ) (js : Elements) : Type 0 wher
   pub here : at.ElementsAt d n (drop i m) written
   pub means : settled_elements written ≡ js
 
-abbrev pub MembersFrom : List ℕ → ℕ → ℕ → Members → Cursor → Type 0
-MembersFrom m d n ms (At i) = MembersAt m d n i ms
-MembersFrom m d n ms Nothing = ms ≡ no_member
+abbrev pub MembersFrom : List ℕ → ℕ → ℕ → Members → Option ℕ → Type 0
+MembersFrom m d n ms (Some i) = MembersAt m d n i ms
+MembersFrom m d n ms None = ms ≡ no_member
 
-abbrev pub ElementsFrom : List ℕ → ℕ → ℕ → Elements → Cursor → Type 0
-ElementsFrom m d n js (At i) = ElementsAt m d n i js
-ElementsFrom m d n js Nothing = js ≡ no_element
+abbrev pub ElementsFrom : List ℕ → ℕ → ℕ → Elements → Option ℕ → Type 0
+ElementsFrom m d n js (Some i) = ElementsAt m d n i js
+ElementsFrom m d n js None = js ≡ no_element
 
 abbrev pub kind_of : Json → Kind
 kind_of scalar = Scalar

@@ -3,334 +3,270 @@
 
 #![tactic(auto)]
 
-ghost use Rattle.std.specs.Prelude.{◌≡◌, List, ℕ, suc, ◌≤◌, ◌<◌, ltb, length, drop, set, replicate, if◌then◌else◌};
+ghost use Rattle.std.specs.Prelude.{◌≡◌, List, ℕ, suc, ◌≤◌, ◌<◌, length, drop, IfSome};
+ghost use Rattle.std.specs.Iterator.{at_most};
+ghost use Rattle.std.specs.List.{position};
 ghost use Rattle.std.proofs.Math.Option.{some};
 ghost use Rattle.definition.specs.Settings.{texts_of};
-ghost use Rattle.definition.specs.Json.{Json, str, obj, Members, got, quoted};
-ghost use Rattle.definition.specs.JsonAt.{member_value};
+ghost use Rattle.definition.specs.Json.{Json, str, arr, obj, Members, got, quoted};
+ghost use Rattle.definition.specs.JsonAt.{member_value, first_member, name_is};
 ghost use Rattle.definition.specs.Exports.{Request, string_target, PACKAGE_TARGET_RESOLVE};
 ghost use Rattle.definition.specs.Specifier.{parse_specifier};
+ghost use Rattle.package_json.specs.Cursors.{placed};
 ghost use Rattle.targets.specs.Contexts.{context_of};
 ghost use Rattle.targets.specs.Answers.{answer_of, Asked};
 ghost use Rattle.package_target.specs.Places.{Written, Stands, kind_of};
-ghost use Rattle.package_target.specs.Conditions.{condition_of, LastValues, Turn};
-ghost use Rattle.package_target.specs.Answers.{Requested, is_nothing, is_final, is_some, is_passed};
+ghost use Rattle.package_target.specs.Walks.{Gives};
+ghost use Rattle.package_target.specs.Conditions.{condition_of, IsCondition, places, LastValues, Turn};
+ghost use Rattle.package_target.specs.Answers.{Requested, SameBuffers, is_nothing, is_passed};
 
-use package_json::Cursor;
-use targets::{Answer, Context, Form, Outcome};
+use package_json::Kind;
+use targets::{Answer, Context, Outcome, Wanted};
 
 // As many conditions as a count of one byte and "default" can name.
 const CONDITIONS: usize = 256;
 
-// The kinds of values.
-#[derive(Clone, Copy)]
-pub enum Kind {
-    Scalar,
-    String,
-    Array,
-    Object,
-}
+// No object of a manifest has more members, no array more elements.
+const MEMBERS: usize = 128;
 
 // The kind of the value at a place. Where none stands there, the answer is free.
 pub fn kind_at(m: &[u8], at: usize) -> Kind
     ensures { (d : ℕ) (j : Json) → Stands m.now d at j → result ≡ kind_of j }
 {
-    let kind = package_json::kind_at(m, at);
-    match kind {
-        package_json::Kind::Scalar => Kind::Scalar,
-        package_json::Kind::String => Kind::String,
-        package_json::Kind::Array => Kind::Array,
-        package_json::Kind::Object => Kind::Object,
-        package_json::Kind::Nothing => Kind::Scalar,
-    }
+    package_json::kind_at(m, at).unwrap_or(Kind::Scalar)
 }
 
 // The place of the value of the member at a place. Where no member stands there, the answer is free.
 pub fn value_at(m: &[u8], at: usize) -> usize
     ensures { (s : List ℕ) → member_value (drop at m.now) ≡ some s → drop result m.now ≡ s }
 {
-    let value = package_json::member_value(m, at);
-    match value {
-        Cursor::Nothing => at,
-        Cursor::At(i) => i,
+    package_json::member_value(m, at).unwrap_or(at)
+}
+
+// A member, by the places of its name and its value.
+#[derive(Clone, Copy, Debug, PartialEq, Eq)]
+pub struct Member {
+    pub name: usize,
+    pub value: usize,
+}
+
+// The members of an object that are left, as many as a manifest may have.
+#[derive(Clone, Copy)]
+pub struct MembersLeft<'a> {
+    manifest: &'a [u8],
+    next: Option<usize>,
+    left: usize,
+}
+
+// The members of the object at a place.
+pub fn members(m: &[u8], at: usize) -> MembersLeft<'_>
+    ensures manifest { result.manifest.now ≡ m.now }
+    ensures first { placed m.now result.next ≡ first_member (drop at m.now) }
+    ensures left { result.left ≡ 128 }
+{
+    MembersLeft {
+        manifest: m,
+        next: package_json::first_member(m, at),
+        left: MEMBERS,
     }
 }
 
-// The string at a place as a target, decoded into work where it has an escape.
-fn string_target(
-    m: &[u8],
-    at: usize,
-    url: &[u8],
-    form: Form,
-    pattern: &[u8],
-    c: Context,
-    work: &mut [u8],
-    path: &mut [u8; 2048],
-) -> Answer
-    ensures { (q : Request) (d : ℕ) (s : List ℕ) → 1024 ≤ length work.old → Asked q url.now form pattern.now → Stands m.now d at (str s) → answer_of m.now q path.new result ≡ string_target q (parse_specifier s) s (context_of m.now c) }
+impl Iterator for MembersLeft<'_> {
+    type Item = Member;
+
+    ghost next_gives = { Gives };
+
+    ghost remaining = { λ s. at_most s.left };
+
+    fn next(&mut self) -> Option<Member> {
+        self.left = self.left.checked_sub(1)?;
+        let name = self.next?;
+        let value = package_json::member_value(self.manifest, name)?;
+        self.next = package_json::next_element(self.manifest, value);
+        Some(Member { name, value })
+    }
+}
+
+// Which condition of the settings the member at a place names.
+fn setting_at(m: &[u8], at: usize, settings: &[u8]) -> Option<usize>
+    ensures few { length (texts_of settings.now 0) < 256 }
+    ensures first { result ≡ position (λ condition. name_is condition (drop at m.now)) (texts_of settings.now 0) }
 {
-    let t = package_json::read_text(m, at, work);
-    targets::text_target(
-        url,
-        form,
-        pattern,
-        package_json::text_at(m, work, t),
-        at,
-        c,
-        path,
+    settings::texts(settings, settings::Kind::Conditions).position(
+        |condition| package_json::name_is(m, at, condition),
     )
 }
 
-fn wide(x: u8) -> usize
-    ensures { (result ≡ x) × (result < 256) }
+// Which condition the member at a place names: 0 is "default", 1 + i the i-th of the settings.
+fn condition_at(m: &[u8], at: usize, settings: &[u8]) -> Option<usize>
+    ensures few { length (texts_of settings.now 0) < 256 }
+    ensures by_index { (k s : List ℕ) → quoted (drop at m.now) ≡ got k s → IsCondition (condition_of (texts_of settings.now 0) k) result }
+    ensures small { IfSome result (λ k. k < 256) }
 {
-    x as usize
-}
-
-// How many conditions the settings have: no more than their count says, which is one byte.
-fn condition_count(settings: &[u8]) -> usize
-    ensures { (result ≡ length (texts_of settings.now 0)) × (result < 256) }
-{
-    if settings.len() == 0 {
-        return 0;
-    }
-    let counted = wide(settings[0]);
-    let n = settings::count(settings, settings::Kind::Conditions);
-    if n < counted {
-        return n;
-    }
-    counted
-}
-
-// Which condition the member at a place names: 0 is "default", 1 + i the i-th of the settings, CONDITIONS none of them.
-fn condition_at(m: &[u8], at: usize, settings: &[u8]) -> usize
-    ensures settings_len_bound { length (texts_of settings.now 0) < 256 }
-    ensures by_index { (k s : List ℕ) → quoted (drop at m.now) ≡ got k s → result ≡ condition_of (texts_of settings.now 0) k }
-{
-    let n = condition_count(settings);
     if package_json::name_is(m, at, b"default") {
-        return 0;
+        return Some(0);
     }
-    let mut i: usize = 0;
-    while i < n {
-        let condition = settings::text(settings, settings::Kind::Conditions, i);
-        if package_json::name_is(m, at, condition) {
-            return 1 + i;
-        }
-        i += 1;
-    }
-    CONDITIONS
+    Some(1 + setting_at(m, at, settings)?)
 }
 
-// A condition's value; a number that is none's changes nothing.
-fn put_value(values: &mut [usize; 256], k: usize, value: usize)
-    ensures { values.new ≡ (if ltb k 256 then set values.old k value else values.old) }
+// The last value of each condition that the object at a place names, by its place, and the manifest's end where it names none: options would take
+// twice the stack, of which each of up to 16 levels has such a table.
+fn last_values(m: &[u8], at: usize, settings: &[u8]) -> [usize; CONDITIONS]
+    ensures { (d : ℕ) (ms : Members) → Written m.now (suc d) at (obj ms) → LastValues m.now d (texts_of settings.now 0) (places (length m.now) result) ms }
 {
-    if k < CONDITIONS {
-        values[k] = value;
-    }
-}
-
-// The last value of each condition that the object at a place names, by its place; the manifest's end where it names none.
-fn last_values(m: &[u8], at: usize, settings: &[u8], values: &mut [usize; 256])
-    requires { values.old ≡ replicate 256 (length m.now) }
-    ensures { (d : ℕ) (ms : Members) → Written m.now (suc d) at (obj ms) → LastValues m.now d (texts_of settings.now 0) values.new ms }
-{
-    let mut cursor = package_json::first_member(m, at);
-    let mut left: usize = 128;
-    while left > 0 {
-        match cursor {
-            Cursor::Nothing => return,
-            Cursor::At(i) => {
-                let value = value_at(m, i);
-                let k = condition_at(m, i, settings);
-                put_value(values, k, value);
-                cursor = package_json::next_element(m, value);
-                left -= 1;
-            }
+    let mut values = [m.len(); CONDITIONS];
+    for member in members(m, at) {
+        if let Some(k) = condition_at(m, member.name, settings) {
+            values[k] = member.value;
         }
     }
+    values
 }
 
-// The value that the member at a place leads to, the manifest's end where it leads to none: each condition has one turn.
-fn take_turn(m: &[u8], at: usize, settings: &[u8], values: &mut [usize; 256]) -> usize
-    ensures settings_len_bound { length (texts_of settings.now 0) < 256 }
-    ensures by_index { (k s : List ℕ) → quoted (drop at m.now) ≡ got k s → Turn (length m.now) (condition_of (texts_of settings.now 0) k) values.old values.new result }
+// The value that the member at a place leads to, if it leads to one: each condition has one turn.
+fn take_turn(
+    m: &[u8],
+    at: usize,
+    settings: &[u8],
+    values: &mut [usize; CONDITIONS],
+) -> Option<usize>
+    ensures few { length (texts_of settings.now 0) < 256 }
+    ensures by_index { (k s : List ℕ) → quoted (drop at m.now) ≡ got k s → Turn (condition_of (texts_of settings.now 0) k) (places (length m.now) values.old) (places (length m.now) values.new) result }
 {
-    let k = condition_at(m, at, settings);
-    let end = m.len();
-    if k >= CONDITIONS {
-        return end;
-    }
-    let value = values[k];
-    values[k] = end;
-    value
+    let k = condition_at(m, at, settings)?;
+    let place = values[k];
+    values[k] = m.len();
+    (place < m.len()).then_some(place)
 }
 
 // Nothing was found: the next condition, or the next part of the algorithm, is tried.
 pub fn is_nothing(o: Outcome) -> bool
     ensures { result ≡ is_nothing o }
 {
-    match o {
-        Outcome::Nothing => true,
-        Outcome::Found => false,
-        Outcome::Empty => false,
-        Outcome::InvalidTarget => false,
-        Outcome::NotExportedMatch => false,
-        Outcome::NotExported => false,
-        Outcome::ConfigMixed => false,
-        Outcome::ConfigDirectory => false,
-        Outcome::OverLong => false,
-    }
+    matches!(o, Outcome::Nothing)
 }
 
-fn is_some(c: Cursor) -> bool
-    ensures { result ≡ is_some c }
-{
-    match c {
-        Cursor::Nothing => false,
-        Cursor::At(_) => true,
-    }
-}
-
-// A path, or a refusal: nothing else is tried.
-fn is_final(o: Outcome) -> bool
-    ensures { result ≡ is_final o }
-{
-    match o {
-        Outcome::Found => true,
-        Outcome::OverLong => true,
-        Outcome::Nothing => false,
-        Outcome::Empty => false,
-        Outcome::InvalidTarget => false,
-        Outcome::NotExportedMatch => false,
-        Outcome::NotExported => false,
-        Outcome::ConfigMixed => false,
-        Outcome::ConfigDirectory => false,
-    }
-}
-
-// An element that gave nothing, or failed and is not the last: the next element is tried. A refusal ends the array.
-fn is_passed(o: Outcome, next: Cursor) -> bool
+// Whether an array goes on behind an element. A path or a refusal ends it, nothing does not, and a failure does where the element is the last.
+fn is_passed(o: Outcome, next: Option<usize>) -> bool
     ensures { result ≡ is_passed o next }
 {
-    if is_nothing(o) {
-        return true;
+    match o {
+        Outcome::Nothing => true,
+        Outcome::Found | Outcome::OverLong => false,
+        _ => next.is_some(),
     }
-    if is_final(o) {
-        return false;
-    }
-    is_some(next)
 }
 
-// The target at a place, in which `depth` more brackets may be open. Its key and the part of the subpath that matched are told by `form` and
-// `pattern`. The answer's path stands at the start of the path buffer; both lent buffers end with any other bytes, and work with its old length.
-// Where no value stands there, or work has fewer than 1,024 bytes, the answer is free.
+// The lent buffers: for the decoded text of a string, and for the path of an answer.
+#[derive(Drop)]
+pub struct Buffers<'a> {
+    pub work: &'a mut [u8; 1024],
+    pub path: &'a mut [u8; 2048],
+}
+
+// What the resolution of one target does not change: the manifest, the settings, and what its targets are asked for.
+#[derive(Clone, Copy)]
+pub struct Resolution<'a> {
+    pub manifest: &'a [u8],
+    pub settings: &'a [u8],
+    pub wanted: Wanted<'a>,
+}
+
+impl Resolution<'_> {
+    // The string at a place as a target, decoded into work where it has an escape.
+    fn string_target(self, at: usize, c: Context, buffers: &mut Buffers<'_>) -> Answer
+        ensures result_after { (q : Request) (d : ℕ) (s : List ℕ) → Asked q self.entry.wanted → Stands self.entry.manifest.now d at (str s) → answer_of self.entry.manifest.now q buffers.new.path.now result ≡ string_target q (parse_specifier s) s (context_of self.entry.manifest.now c) }
+        ensures same { SameBuffers buffers.old buffers.new }
+    {
+        let t = package_json::read_text(self.manifest, at, buffers.work);
+        targets::text_target(
+            self.wanted,
+            package_json::text_at(self.manifest, buffers.work, t),
+            at,
+            c,
+            buffers.path,
+        )
+    }
+
+    // The first element that gives an answer. The context goes on from one to the next.
+    #[cycle(target)]
+    fn array(self, at: usize, depth: usize, c: Context, buffers: &mut Buffers<'_>) -> Answer
+        ensures result_after { (q : Request) (j : Json) → Requested q self.entry → Stands self.entry.manifest.now depth at j → Kind.Array ≡ kind_of j → answer_of self.entry.manifest.now q buffers.new.path.now result ≡ PACKAGE_TARGET_RESOLVE q j (context_of self.entry.manifest.now c) }
+        ensures same { SameBuffers buffers.old buffers.new }
+    {
+        if depth == 0 {
+            return targets::without_path(c, Outcome::Nothing);
+        }
+        let mut cursor = package_json::first_element(self.manifest, at);
+        if cursor.is_none() {
+            return targets::without_path(c, Outcome::NotExportedMatch);
+        }
+        let mut context = c;
+        for _ in 0..MEMBERS {
+            let Some(i) = cursor else { break };
+            cursor = package_json::next_element(self.manifest, i);
+            let answer = self.target(i, depth - 1, context, buffers);
+            if !is_passed(answer.outcome, cursor) {
+                return answer;
+            }
+            context = answer.context;
+        }
+        targets::without_path(context, Outcome::Nothing)
+    }
+
+    // The last value of the first condition that gives an answer. The context goes on from one to the next.
+    #[cycle(target)]
+    fn object(self, at: usize, depth: usize, c: Context, buffers: &mut Buffers<'_>) -> Answer
+        ensures result_after { (q : Request) (j : Json) → Requested q self.entry → Stands self.entry.manifest.now depth at j → Kind.Object ≡ kind_of j → answer_of self.entry.manifest.now q buffers.new.path.now result ≡ PACKAGE_TARGET_RESOLVE q j (context_of self.entry.manifest.now c) }
+        ensures same { SameBuffers buffers.old buffers.new }
+    {
+        if depth == 0 {
+            return targets::without_path(c, Outcome::Nothing);
+        }
+        let mut values = last_values(self.manifest, at, self.settings);
+        let mut context = c;
+        for member in members(self.manifest, at) {
+            if let Some(value) = take_turn(self.manifest, member.name, self.settings, &mut values) {
+                let answer = self.target(value, depth - 1, context, buffers);
+                if !is_nothing(answer.outcome) {
+                    return answer;
+                }
+                context = answer.context;
+            }
+        }
+        targets::without_path(context, Outcome::Nothing)
+    }
+
+    // The target at a place, in which `depth` more brackets may be open.
+    #[cycle(target)]
+    fn target(self, at: usize, depth: usize, c: Context, buffers: &mut Buffers<'_>) -> Answer
+        ensures result_after { (q : Request) (j : Json) → Requested q self.entry → Stands self.entry.manifest.now depth at j → answer_of self.entry.manifest.now q buffers.new.path.now result ≡ PACKAGE_TARGET_RESOLVE q j (context_of self.entry.manifest.now c) }
+        ensures same { SameBuffers buffers.old buffers.new }
+    {
+        match kind_at(self.manifest, at) {
+            Kind::Scalar => targets::without_path(c, Outcome::Nothing),
+            Kind::String => self.string_target(at, c, buffers),
+            Kind::Array => self.array(at, depth, c, buffers),
+            Kind::Object => self.object(at, depth, c, buffers),
+        }
+    }
+}
+
+// The target at a place, in which `depth` more brackets may be open. The answer's path stands at the start of the path buffer; both lent buffers end
+// with any other bytes, and work with its old length. Where no value stands there, or work has fewer than 1,024 bytes, the answer is free.
 pub fn package_target_resolve(
-    m: &[u8],
+    resolution: Resolution<'_>,
     at: usize,
     depth: usize,
-    settings: &[u8],
-    url: &[u8],
-    form: Form,
-    pattern: &[u8],
     c: Context,
     work: &mut [u8],
     path: &mut [u8; 2048],
 ) -> Answer
-    ensures result_after { (q : Request) (j : Json) → 1024 ≤ length work.old → Requested q settings.now url.now form pattern.now → Stands m.now depth at j → answer_of m.now q path.new result ≡ PACKAGE_TARGET_RESOLVE q j (context_of m.now c) }
+    ensures result_after { (q : Request) (j : Json) → 1024 ≤ length work.old → Requested q resolution.entry → Stands resolution.entry.manifest.now depth at j → answer_of resolution.entry.manifest.now q path.new result ≡ PACKAGE_TARGET_RESOLVE q j (context_of resolution.entry.manifest.now c) }
     ensures work_len_unchanged { length work.new ≡ length work.old }
 {
-    let kind = kind_at(m, at);
-    match kind {
-        Kind::Scalar => targets::without_path(c, Outcome::Nothing),
-        Kind::String => string_target(m, at, url, form, pattern, c, work, path),
-        Kind::Array => {
-            if depth == 0 {
-                return targets::without_path(c, Outcome::Nothing);
-            }
-            let mut cursor = package_json::first_element(m, at);
-            let some = is_some(cursor);
-            if !some {
-                return targets::without_path(c, Outcome::NotExportedMatch);
-            }
-            let mut context = c;
-            let mut left: usize = 128;
-            while left > 0 {
-                match cursor {
-                    Cursor::Nothing => return targets::without_path(context, Outcome::Nothing),
-                    Cursor::At(i) => {
-                        let next = package_json::next_element(m, i);
-                        let r = package_target_resolve(
-                            m,
-                            i,
-                            depth - 1,
-                            settings,
-                            url,
-                            form,
-                            pattern,
-                            context,
-                            work,
-                            path,
-                        );
-                        let outcome = r.outcome;
-                        let passed = is_passed(outcome, next);
-                        if !passed {
-                            return r;
-                        }
-                        context = r.context;
-                        cursor = next;
-                        left -= 1;
-                    }
-                }
-            }
-            targets::without_path(context, Outcome::Nothing)
-        }
-        Kind::Object => {
-            if depth == 0 {
-                return targets::without_path(c, Outcome::Nothing);
-            }
-            let end = m.len();
-            let mut values = [end; 256];
-            last_values(m, at, settings, &mut values);
-            let mut cursor = package_json::first_member(m, at);
-            let mut context = c;
-            let mut left: usize = 128;
-            while left > 0 {
-                match cursor {
-                    Cursor::Nothing => return targets::without_path(context, Outcome::Nothing),
-                    Cursor::At(i) => {
-                        let next = package_json::next_member(m, i);
-                        let value = take_turn(m, i, settings, &mut values);
-                        if value < m.len() {
-                            let r = package_target_resolve(
-                                m,
-                                value,
-                                depth - 1,
-                                settings,
-                                url,
-                                form,
-                                pattern,
-                                context,
-                                work,
-                                path,
-                            );
-                            let outcome = r.outcome;
-                            let passed = is_nothing(outcome);
-                            if !passed {
-                                return r;
-                            }
-                            context = r.context;
-                            cursor = next;
-                            left -= 1;
-                        } else {
-                            cursor = next;
-                            left -= 1;
-                        }
-                    }
-                }
-            }
-            targets::without_path(context, Outcome::Nothing)
-        }
-    }
+    let Some(work) = work.first_chunk_mut() else {
+        return targets::without_path(c, Outcome::Nothing);
+    };
+    resolution.target(at, depth, c, &mut Buffers { work, path })
 }

@@ -1,21 +1,21 @@
--- The loops over components: one part between slashes, and what is left behind the next slash.
-use mathlib.Core.Path.{◌≡◌, refl, sym, ◌∙◌}
-use Prim.Native.Nat.{ℕ, ◌+◌, ◌-◌, ◌≤◌, ◌<◌}
+-- The loops over the parts between slashes: one part, and what is left behind the next slash.
+use mathlib.Core.Path.{◌≡◌, refl, sym, ◌∙◌, ap}
+use Prim.Native.Nat.{ℕ, suc, ◌+◌, ◌≤◌, ◌<◌}
 use native.Mathlib.Omega.{arith}
-use mathlib.Core.Bool.{Bool, true, false, not, ◌||◌, false≢true}
-use mathlib.Core.List.{List, [], ◌∷◌, ◌++◌}
+use mathlib.Core.Bool.{Bool, true, false, ◌||◌, cond, false≢true, true≢false}
+use mathlib.Core.List.{List, [], ◌∷◌, ◌++◌, flat_map}
 use lib.ListN.{length, drop, take, get_or, length-take}
-use lib.Seq.{take-suc}
-use lib.Dec.{eqb, leb, ltb}
-use borrow.Author.Tests.{ltb-true, ltb-false, leb-true, leb-false, eqb-true, eqb-false}
+use Rattle.std.specs.List.{slice_split, onto_first}
+use Rattle.std.proofs.lemmas.List.{drop_more, drop_all}
+use lib.Dec.{eqb, leb}
+use borrow.Author.Tests.{leb-true, leb-false, eqb-true, eqb-false}
 use Rattle.std.specs.Prelude.{if◌then◌else◌}
-use Rattle.definition.specs.Text.{text, slash, equal, starts_with, equal_ignoring_case, before, text_computes}
+use Rattle.definition.specs.Text.{text, slash, equal, starts_with, equal_ignoring_case, split, to_first, text_computes}
 use Rattle.laws.specs.TextLaws.{equal_true}
-use Rattle.laws.specs.TextSteps.{first_inside}
-use Rattle.definition.specs.Path.{path_computes, parent_dir, normal, component, push, parent, pops, Built, built, too_long, and_path, limited, push_component, push_all, push_relative, normalize_with, normalize_relative, invalid_component, any_invalid}
-use Rattle.laws.specs.PathLaws.{limited_fits, component_up, parts, parts_more, parts_last, parts_rooted, rooted, not_rooted, any_invalid_append, push_all_append, push_relative_append, root_of, relative_parts, parent_short, room, room_high, relative_length, with_empty, with_rooted, with_parts}
+use Rattle.definition.specs.Path.{Component, path_computes, parent_dir, normal, component, push, parent, pops, Built, built, too_long, and_path, limited, push_component, push_all, push_relative, normalize_with, normalize_relative, invalid_component, any_invalid}
+use Rattle.laws.specs.PathLaws.{limited_fits, component_up, parts, parts_rooted, push_all_append, push_relative_append, root_of, relative_parts, parent_short, room, room_high, relative_length, with_empty, with_rooted, with_parts}
 use Rattle.laws.specs.PathSteps.{starts_with_lem, starts_empty}
-use Rattle.path.specs.Meaning.{path_at, Roomy}
+use Rattle.path.specs.Meaning.{path_at}
 use Rattle.path.proofs.Steps.{at_fits, at_long}
 
 -- `is_invalid_part`
@@ -36,21 +36,42 @@ invalid_name s h = go (equal s []) (equal s (text ".")) refl refl
     go false true e f = rw (equal_true s (text ".") f) (unfold text_computes in refl)
     go false false e f = rw (e, f, h) (or-false (equal_ignoring_case s (text "node_modules")))
 
--- `is_invalid_exports_target`: the next slash is at e
-module _ (t : List ℕ) (at e : ℕ) (h : e ≡ at + length (before slash (drop at t))) where
-  pub invalid_here : any_invalid (component (take (e - at) (drop at t))) ≡ true → any_invalid (parts (drop at t)) ≡ true
-  invalid_here k = go (ltb e (length t)) refl
-    where
-      go : (u : Bool) → ltb e (length t) ≡ u → any_invalid (parts (drop at t)) ≡ true
-      go true l = rw (parts_more t at e h (ltb-true _ _ l), any_invalid_append (component (take (e - at) (drop at t))) (parts (drop (e + 1) t)), k)
-      go false l = rw (parts_last t at e h (ltb-false _ _ l)) k
+-- a `for` over the library's `split` goes over the definition's parts
+pub cut_is : (c : ℕ) (s : List ℕ) → slice_split (λ b. eqb b c) s ≡ split c s
+unfolding split to_first
+cut_is c [] = refl
+cut_is c (b ∷ s) = rw (cut_is c s) (go (eqb b c) (split c s))
+  where
+    first : (ps : List (List ℕ)) → onto_first b ps ≡ to_first b ps
+    first [] = refl
+    first (p ∷ ps) = refl
 
-  module _ (k : any_invalid (component (take (e - at) (drop at t))) ≡ false) where
-    pub invalid_last : length t ≤ e → any_invalid (parts (drop at t)) ≡ false
-    invalid_last l = rw (parts_last t at e h l) k
+    go : (u : Bool) (ps : List (List ℕ)) → cond u ([] ∷ ps) (onto_first b ps) ≡ (if u then [] ∷ ps else to_first b ps)
+    go true ps = refl
+    go false ps = first ps
 
-    pub invalid_more : e < length t → any_invalid (parts (drop at t)) ≡ any_invalid (parts (drop (e + 1) t))
-    invalid_more l = rw (parts_more t at e h l, any_invalid_append (component (take (e - at) (drop at t))) (parts (drop (e + 1) t)), k)
+pub part_at : (c : ℕ) (s : List ℕ) (n : ℕ) (x : List ℕ) → (n < length (slice_split (λ b. eqb b c) s)) × (x ≡ get_or (slice_split (λ b. eqb b c) s) n x) → drop n (split c s) ≡ x ∷ drop (n + 1) (split c s)
+part_at c s n x h = rw (← cut_is c s) (drop_more (slice_split (λ b. eqb b c) s) n x h.0 ∙ ap (λ y. y ∷ drop (n + 1) (slice_split (λ b. eqb b c) s)) (sym h.1))
+
+pub part_end : (c : ℕ) (s : List ℕ) (n : ℕ) → n ≡ length (slice_split (λ b. eqb b c) s) → drop n (split c s) ≡ []
+part_end c s n h = rw (← cut_is c s) (drop_all n (slice_split (λ b. eqb b c) s) (omega arith))
+
+-- the components of the parts from the n-th on
+abbrev pub parts_from : ℕ → List ℕ → List Component
+parts_from n s = flat_map component (drop n (split slash s))
+
+pub all_parts : (s : List ℕ) → parts_from 0 s ≡ parts s
+unfolding parts
+all_parts s = refl
+
+module _ (s : List ℕ) (n : ℕ) where
+  pub parts_next : (x : List ℕ) → (n < length (slice_split (λ b. eqb b slash) s)) × (x ≡ get_or (slice_split (λ b. eqb b slash) s) n x) → parts_from n s ≡ component x ++ parts_from (n + 1) s
+  unfolding flat_map
+  parts_next x h = rw (part_at slash s n x h)
+
+  pub parts_end : n ≡ length (slice_split (λ b. eqb b slash) s) → parts_from n s ≡ []
+  unfolding flat_map
+  parts_end h = rw (part_end slash s n h)
 
 -- `push_component`
 built_all : (b : Built) → and_path b (λ p. built p) ≡ b
@@ -82,7 +103,7 @@ module _ (b : List ℕ) (n : ℕ) (s : List ℕ) where
       go too_long = refl
 
   -- as long as ".." pops it does not matter whether it would stay
-  relative_same : (equal s (text "..") ≡ true → pops (take n b) ≡ true) → and_path (path_at b n) (λ p. push_all (component s) p) ≡ and_path (path_at b n) (λ p. limited (push_relative (component s) p))
+  pub relative_same : (equal s (text "..") ≡ true → n ≤ 2048 → pops (take n b) ≡ true) → and_path (path_at b n) (λ p. push_all (component s) p) ≡ and_path (path_at b n) (λ p. limited (push_relative (component s) p))
   unfolding component push_all push_component push_relative
   relative_same f = go (leb n 2048) refl
     where
@@ -93,130 +114,72 @@ module _ (b : List ℕ) (n : ℕ) (s : List ℕ) where
       part false false h f = built_all (limited (push (take n b) s))
 
       go : (u : Bool) → leb n 2048 ≡ u → and_path (path_at b n) (λ p. push_all (component s) p) ≡ and_path (path_at b n) (λ p. limited (push_relative (component s) p))
-      go true h = rw (at_fits b n (leb-true _ _ h)) (part (equal s [] || equal s (text ".")) (equal s (text "..")) (leb-true _ _ h) f)
+      go true h = let l = leb-true n 2048 h in rw (at_fits b n l) (part (equal s [] || equal s (text ".")) (equal s (text "..")) l (λ e. f e l))
       go false h = rw (at_long b n (leb-false _ _ h))
 
-  relative_stays : equal s (text "..") ≡ true → pops (take n b) ≡ false → and_path (path_at b n) (λ p. limited (push p s)) ≡ and_path (path_at b n) (λ p. limited (push_relative (component s) p))
+  pub relative_stays : equal s (text "..") ≡ true → (n ≤ 2048 → pops (take n b) ≡ false) → and_path (path_at b n) (λ p. limited (push p s)) ≡ and_path (path_at b n) (λ p. limited (push_relative (component s) p))
   unfolding push_relative
   relative_stays e f = rw (component_up s e, equal_true s (text "..") e) (go (leb n 2048) refl)
     where
       go : (u : Bool) → leb n 2048 ≡ u → and_path (path_at b n) (λ p. limited (push p (text ".."))) ≡ and_path (path_at b n) (λ p. limited (push_relative (parent_dir ∷ []) p))
-      go true h = rw (at_fits b n (leb-true _ _ h), f)
+      go true h = let l = leb-true n 2048 h in rw (at_fits b n l, f l)
       go false h = rw (at_long b n (leb-false _ _ h))
 
--- `push_part`: it goes as `push_component` where ".." pops or is not looked at
-pub part_same : (stays : Bool) (b : List ℕ) (n : ℕ) (s : List ℕ) {y : Built} → (stays ≡ true → equal s (text "..") ≡ true → pops (take n b) ≡ true)
-    → y ≡ and_path (path_at b n) (λ p. push_all (component s) p)
-    → y ≡ and_path (path_at b n) (λ p. if stays then limited (push_relative (component s) p) else push_all (component s) p)
-part_same false b n s f e = e
-part_same true b n s f e = e ∙ relative_same b n s (f refl)
+-- `push_parts`: one part, and what is left
+pub pushed_more : (x y : Built) (cs ds : List Component) → y ≡ and_path x (λ p. push_all cs p) → and_path y (λ p. push_all ds p) ≡ and_path x (λ p. push_all (cs ++ ds) p)
+pushed_more (built p) y cs ds e = rw e (sym (push_all_append cs ds p))
+pushed_more too_long y cs ds e = rw e
 
-pub part_stays : (stays : Bool) (b : List ℕ) (n : ℕ) (s : List ℕ) {y : Built} → stays ≡ true → equal s (text "..") ≡ true → pops (take n b) ≡ false
-    → y ≡ and_path (path_at b n) (λ p. limited (push p s))
-    → y ≡ and_path (path_at b n) (λ p. if stays then limited (push_relative (component s) p) else push_all (component s) p)
-part_stays false b n s t e f k = absurd (false≢true t)
-part_stays true b n s t e f k = k ∙ relative_stays b n s e f
+pub pushed_all : (x : Built) → x ≡ and_path x (λ p. push_all [] p)
+unfolding push_all
+pushed_all x = sym (built_all x)
 
--- `push_parts` where ".." pops
-module _ (x y : Built) (sub : List ℕ) (at e : ℕ) (h : e ≡ at + length (before slash (drop at sub)))
-    (k : y ≡ and_path x (λ p. push_all (component (take (e - at) (drop at sub))) p)) where
-  pub with_last : length sub ≤ e → y ≡ and_path x (λ p. push_all (parts (drop at sub)) p)
-  with_last l = rw (parts_last sub at e h l) k
+-- `push_relative_parts`: from a path x₀, a path so far, and the parts from the n-th on left, for which there is room
+pub size : List (List ℕ) → ℕ
+size [] = 0
+size (p ∷ ps) = suc (length p + size ps)
 
-  pub with_more : e < length sub → and_path y (λ p. push_all (parts (drop (e + 1) sub)) p) ≡ and_path x (λ p. push_all (parts (drop at sub)) p)
-  with_more l = rw (k, parts_more sub at e h l) (go x)
-    where
-      go : (x : Built) → and_path (and_path x (λ p. push_all (component (take (e - at) (drop at sub))) p)) (λ p. push_all (parts (drop (e + 1) sub)) p) ≡ and_path x (λ p. push_all (component (take (e - at) (drop at sub)) ++ parts (drop (e + 1) sub)) p)
-      go (built p) = sym (push_all_append (component (take (e - at) (drop at sub))) (parts (drop (e + 1) sub)) p)
-      go too_long = refl
+size_split : (c : ℕ) (s : List ℕ) → size (split c s) ≡ suc (length s)
+unfolding split to_first size
+size_split c [] = omega arith
+size_split c (b ∷ s) = go (eqb b c) (split c s) (size_split c s)
+  where
+    go : (u : Bool) (ps : List (List ℕ)) → size ps ≡ suc (length s) → size (if u then [] ∷ ps else to_first b ps) ≡ suc (suc (length s))
+    go true ps h = omega arith
+    go false [] h = absurd (let z : ⊥ = omega arith in z)
+    go false (p ∷ ps) h = omega arith
 
--- `pops`
-pub pops_empty : (p : List ℕ) → length p ≡ 0 → pops p ≡ false
-unfolding pops equal
-pops_empty [] h = refl
-pops_empty (b ∷ p) h = absurd (let z : ⊥ = omega arith in z)
-
-pub pops_some : (p : List ℕ) → (length p ≡ 0 → ⊥) → pops p ≡ not (equal p (text "/"))
-unfolding pops
-pops_some [] h = absurd (h refl)
-pops_some (b ∷ p) h = unfold equal in refl
-
--- `root`
-pub root_empty : (p : List ℕ) → length p ≡ 0 → p ≡ root_of p
-unfolding root_of starts_with
-root_empty [] h = refl
-root_empty (b ∷ p) h = absurd (let z : ⊥ = omega arith in z)
-
-module _ (p : List ℕ) (h : length p ≡ 0 → ⊥) where
-  some : 0 < length p
-  some = omega arith
-
-  pub root_slash : get_or p 0 0 ≡ slash → take 1 p ≡ root_of p
-  unfolding root_of
-  root_slash e = rw (rooted p some e, take-suc p 0 0 some, e)
-
-  pub root_none : (get_or p 0 0 ≡ slash → ⊥) → [] ≡ root_of p
-  unfolding root_of
-  root_none n = rw (not_rooted p some n)
-
--- `push_parts` where ".." stays: from a path x₀, a path so far and the parts from `at` on left
-pub record Going (x₀ : List ℕ) (b : Built) (sub : List ℕ) (at : ℕ) : Type 0 where
+pub record Going (x₀ : List ℕ) (b : Built) (sub : List ℕ) (n : ℕ) : Type 0 where
   pub so : List ℕ
   pub is : b ≡ built so
-  pub short : room so ≤ room x₀ + at
-  pub rest : push_relative (parts (drop at sub)) so ≡ push_relative (parts sub) x₀
+  pub short : room so + size (drop n (split slash sub)) ≤ 2049
+  pub rest : push_relative (parts_from n sub) so ≡ push_relative (parts sub) x₀
 
-pub going_start : (x₀ : List ℕ) (b : Built) (sub : List ℕ) → b ≡ built x₀ → Going x₀ b sub 0
-going_start x₀ b sub e = record { so = x₀; is = e; short = (omega arith); rest = refl }
+pub going_start : (x₀ : List ℕ) (b : Built) (sub : List ℕ) → b ≡ built x₀ → room x₀ + length sub ≤ 2048 → Going x₀ b sub 0
+going_start x₀ b sub e h = record {
+  so = x₀;
+  is = e;
+  short = omega (arith, size_split slash sub);
+  rest = ap (λ cs. push_relative cs x₀) (all_parts sub);
+}
 
-module _ (x₀ : List ℕ) (x y : Built) (sub : List ℕ) (at e : ℕ) (h : e ≡ at + length (before slash (drop at sub))) (i : at ≤ length sub)
-    (l : room x₀ + length sub ≤ 2048) (g : Going x₀ x sub at) (k : y ≡ and_path x (λ q. limited (push_relative (component (take (e - at) (drop at sub))) q))) where
-  abbrev part : List ℕ
-  part = take (e - at) (drop at sub)
+module _ (x₀ : List ℕ) (x : Built) (sub : List ℕ) (n : ℕ) (g : Going x₀ x sub n) where
+  pub going_more : (y : Built) (part : List ℕ) → (n < length (slice_split (λ b. eqb b slash) sub)) × (part ≡ get_or (slice_split (λ b. eqb b slash) sub) n part) → y ≡ and_path x (λ q. limited (push_relative (component part) q)) → Going x₀ y sub (n + 1)
+  unfolding size
+  going_more y part h k =
+      let next = push_relative (component part) g.so in
+      let e = part_at slash sub n part h in
+      let s : room g.so + suc (length part + size (drop (n + 1) (split slash sub))) ≤ 2049 = rw e at g.short in
+      let l : length next ≤ room g.so + length part = relative_length g.so part in record {
+        so = next;
+        is = k ∙ rw g.is (limited_fits next (omega arith));
+        short = omega (arith, room_high next);
+        rest = sym (push_relative_append (component part) (parts_from (n + 1) sub) g.so) ∙ rw (← parts_next sub n part h) g.rest;
+      }
 
-  abbrev next : List ℕ
-  next = push_relative (component part) g.so
-
-  next_length : length next ≤ room x₀ + e
-  next_length = let s = g.short in omega (arith, relative_length g.so part, length-take (e - at) (drop at sub))
-
-  next_is : y ≡ built next
-  next_is = k ∙ rw g.is (limited_fits next (let s = next_length in omega (arith, first_inside slash sub at e h i)))
-
-  pub going_more : e < length sub → Going x₀ y sub (e + 1)
-  going_more m = record {
-    so = next;
-    is = next_is;
-    short = (let s = next_length in omega (arith, room_high next));
-    rest = sym (push_relative_append (component part) (parts (drop (e + 1) sub)) g.so) ∙ rw (← parts_more sub at e h m) g.rest;
-  }
-
-  pub going_last : length sub ≤ e → y ≡ built (push_relative (parts sub) x₀)
-  going_last m = next_is ∙ rw (← g.rest, parts_last sub at e h m)
-
--- `push_parts`: the path so far with the parts from `at` on pushed is the answer; where ".." stays, there is room for them all
-abbrev pub Pushing : Bool → Built → Built → List ℕ → ℕ → Type 0
-Pushing false b₀ b sub at = and_path b (λ p. push_all (parts (drop at sub)) p) ≡ and_path b₀ (λ p. push_all (parts sub) p)
-Pushing true b₀ b sub at = (r : Roomy b₀ (length sub)) → Going r.text b sub at
-
-pub pushing_start : (stays : Bool) (b : Built) (sub : List ℕ) → Pushing stays b b sub 0
-pushing_start false b sub = refl
-pushing_start true b sub = λ r. going_start r.text b sub r.is
-
-pub pushing_more : (stays : Bool) (b₀ x y : Built) (sub : List ℕ) (at e : ℕ) → e ≡ at + length (before slash (drop at sub)) → at ≤ length sub
-    → y ≡ and_path x (λ p. if stays then limited (push_relative (component (take (e - at) (drop at sub))) p) else push_all (component (take (e - at) (drop at sub))) p)
-    → Pushing stays b₀ x sub at → e < length sub → Pushing stays b₀ y sub (e + 1)
-pushing_more false b₀ x y sub at e h i k g m = with_more x y sub at e h k m ∙ g
-pushing_more true b₀ x y sub at e h i k g m = λ r. going_more r.text x y sub at e h i r.fits (g r) k m
-
-pub pushing_last : (stays : Bool) (b₀ x y : Built) (sub : List ℕ) (at e : ℕ) → e ≡ at + length (before slash (drop at sub)) → at ≤ length sub
-    → y ≡ and_path x (λ p. if stays then limited (push_relative (component (take (e - at) (drop at sub))) p) else push_all (component (take (e - at) (drop at sub))) p)
-    → Pushing stays b₀ x sub at → length sub ≤ e → (stays ≡ true → Roomy b₀ (length sub))
-    → y ≡ and_path b₀ (λ p. if stays then built (push_relative (parts sub) p) else push_all (parts sub) p)
-pushing_last false b₀ x y sub at e h i k g m o = with_last x y sub at e h k m ∙ g
-pushing_last true b₀ x y sub at e h i k g m o =
-    let r = o refl in
-    going_last r.text x y sub at e h i r.fits (g r) k m ∙ rw r.is
+  pub going_last : n ≡ length (slice_split (λ b. eqb b slash) sub) → x ≡ built (push_relative (parts sub) x₀)
+  unfolding push_relative
+  going_last h = g.is ∙ rw (← g.rest, parts_end sub n h)
 
 -- `normalize_relative`: behind "/" stands what is left to push, and it has room
 pub record Root (p : List ℕ) : Type 0 where
@@ -245,37 +208,23 @@ root_of_lem p = go (starts_with (text "/") p) p refl
           rest = rw r (sym (relative_parts (c ∷ s) ∙ rw (r, parts_rooted c s k)));
         }
 
--- `is_whole`: a subpath that is empty or absolute, and what `normalize_with` makes of it
-pub whole_empty : (s : List ℕ) → length s ≡ 0 → true ≡ equal s [] || starts_with (text "/") s
-whole_empty [] h = unfold equal in refl
-whole_empty (b ∷ s) h = absurd (let z : ⊥ = omega arith in z)
-
-pub whole_first : (s : List ℕ) → (length s ≡ 0 → ⊥) → eqb (get_or s 0 0) slash ≡ equal s [] || starts_with (text "/") s
-whole_first [] h = absurd (h refl)
-whole_first (b ∷ s) h = go (eqb b slash) refl
-  where
-    go : (u : Bool) → eqb b slash ≡ u → u ≡ equal (b ∷ s) [] || starts_with (text "/") (b ∷ s)
-    go true e = rw (rooted (b ∷ s) (omega arith) (eqb-true b slash e)) (unfold equal in refl)
-    go false e = rw (not_rooted (b ∷ s) (omega arith) (eqb-false b slash e)) (unfold equal in refl)
-
+-- `normalize_with`, of a subpath that is empty or absolute, and of any other
 module _ (base sub : List ℕ) where
   pub with_whole : equal sub [] || starts_with (text "/") sub ≡ true → normalize_with base sub ≡ limited sub
-  with_whole h = go (eqb (length sub) 0) refl
+  unfolding equal
+  with_whole h = go sub h
     where
-      go : (u : Bool) → eqb (length sub) 0 ≡ u → normalize_with base sub ≡ limited sub
-      go true e = with_empty base sub (eqb-true (length sub) 0 e)
-      go false e =
-          let n = eqb-false (length sub) 0 e in
-          with_rooted base sub (omega arith) (eqb-true (get_or sub 0 0) slash (whole_first sub n ∙ h))
+      go : (s : List ℕ) → equal s [] || starts_with (text "/") s ≡ true → normalize_with base s ≡ limited s
+      go [] e = with_empty base [] refl
+      go (b ∷ s) e = with_rooted base (b ∷ s) (omega arith) (sym (eqb-true slash b (sym (starts_with_lem slash (b ∷ s) (omega arith)) ∙ e)))
 
   pub with_relative : equal sub [] || starts_with (text "/") sub ≡ false → normalize_with base sub ≡ and_path (limited base) (λ p. push_all (parts sub) p)
-  with_relative h = go (eqb (length sub) 0) refl
+  unfolding equal
+  with_relative h = go sub h
     where
-      go : (u : Bool) → eqb (length sub) 0 ≡ u → normalize_with base sub ≡ and_path (limited base) (λ p. push_all (parts sub) p)
-      go true e = absurd (false≢true (sym h ∙ sym (whole_empty sub (eqb-true (length sub) 0 e))))
-      go false e =
-          let n = eqb-false (length sub) 0 e in
-          with_parts base sub (omega arith) (eqb-false (get_or sub 0 0) slash (whole_first sub n ∙ h))
+      go : (s : List ℕ) → equal s [] || starts_with (text "/") s ≡ false → normalize_with base s ≡ and_path (limited base) (λ p. push_all (parts s) p)
+      go [] e = absurd (true≢false e)
+      go (b ∷ s) e = with_parts base (b ∷ s) (omega arith) (λ z. eqb-false slash b (sym (starts_with_lem slash (b ∷ s) (omega arith)) ∙ e) (sym z))
 
 -- `normalize_below`: "./" in front adds no part
 dot_parts : (s : List ℕ) → parts (text "./" ++ s) ≡ parts s

@@ -1,38 +1,49 @@
--- The path of a specifier in which something is escaped: each byte is written as a character. Assumes nothing.
+-- Loops that write a text behind a path byte by byte: stars replaced, and each byte as a character without the escapes.
 use mathlib.Core.Path.{◌≡◌, refl, sym, ◌∙◌, ap}
-use Prim.Native.Nat.{ℕ, suc, ◌+◌, ◌/◌, ◌%◌, ◌≤◌, ◌<◌}
+use Prim.Native.Nat.{ℕ, ◌+◌, ◌/◌, ◌%◌, ◌≤◌, ◌<◌}
 use mathlib.Core.Bool.{Bool, true, false, ◌&&◌}
 use mathlib.Core.List.{List, [], ◌∷◌, ◌++◌, flat_map, append_assoc, append-nil}
 use native.Mathlib.Omega.{arith}
-use native.Mathlib.Numerals.{add-one}
-use borrow.Author.Tests.{lt-ltb, le-ltb, leb-true, leb-false}
+use borrow.Author.Tests.{lt-ltb, le-ltb, eq-eqb, ne_eqb, leb-true, leb-false}
 use lib.Dec.{eqb, leb, ltb}
-use lib.ListN.{length, drop, take, set, get_or, length-append, length-set, length-take, drop_of_length-le}
-use lib.Seq.{drop-cons, take-suc-set, length-take-le}
+use lib.ListN.{length, drop, take, get_or, length-append, length-take, drop_of_length-le}
 use Rattle.std.specs.Prelude.{if◌then◌else◌}
-use Rattle.definition.specs.Text.{text, starts_with, trail, utf8}
+use Rattle.definition.specs.Text.{text, star, starts_with, replace, trail, utf8}
 use Rattle.laws.specs.TextLaws.{and_true, starts_with_length}
+use Rattle.laws.specs.TextSteps.{drop_next}
 use Rattle.definition.specs.Path.{Built, built, too_long, and_path, limited, add_extension}
 use Rattle.laws.specs.PathLaws.{limited_fits, limited_append}
 use Rattle.definition.specs.Specifier.{unescape}
 use Rattle.path.specs.Meaning.{path_at}
-use Rattle.path.proofs.Steps.{at_fits, at_long, put_long}
+use Rattle.path.proofs.Steps.{at_fits, at_long}
 
--- a text put behind the first n bytes of a buffer
-module _ (b : List ℕ) (n : ℕ) (t : List ℕ) (w : length b ≡ 2048) where
-  pub put_never : 2048 < n + length t → path_at b 2049 ≡ and_path (path_at b n) (λ p. add_extension p t)
-  put_never h = go (leb n 2048) refl
-    where
-      go : (u : Bool) → leb n 2048 ≡ u → path_at b 2049 ≡ and_path (path_at b n) (λ p. add_extension p t)
-      go true e = put_long b n t w (leb-true _ _ e) h
-      go false e = rw (at_long b n (leb-false _ _ e)) (at_long b 2049 (omega arith))
+-- a text put behind a path, and what is left to write
+pub grow : (x y : Built) (u r : List ℕ) → y ≡ and_path x (λ p. add_extension p u) → and_path y (λ p. limited (p ++ r)) ≡ and_path x (λ p. limited (p ++ (u ++ r)))
+unfolding add_extension
+grow (built p) y u r e = rw e (limited_append (p ++ u) r ∙ ap limited (append_assoc p u r))
+grow too_long y u r e = rw e
 
-  pub put_text : (c : List ℕ) (m : ℕ) → m ≡ n + length t → m ≤ 2048 → take m c ≡ take n b ++ t → path_at c m ≡ and_path (path_at b n) (λ p. add_extension p t)
-  unfolding add_extension
-  put_text c m e h f =
-      let k : n ≤ 2048 = omega arith in
-      let l : length (take n b) ≡ n = length-take-le n b (omega arith) in
-      rw (at_fits b n k, limited_fits (take n b ++ t) (omega (arith, length-append (take n b) t)), ← f) (at_fits c m h)
+-- nothing is left
+pub grown : (b : List ℕ) (n : ℕ) → path_at b n ≡ and_path (path_at b n) (λ p. limited (p ++ []))
+grown b n = go (leb n 2048) refl
+  where
+    go : (u : Bool) → leb n 2048 ≡ u → path_at b n ≡ and_path (path_at b n) (λ p. limited (p ++ []))
+    go true e = rw (at_fits b n (leb-true _ _ e), append-nil) (sym (limited_fits (take n b) (let k = leb-true n 2048 e in omega (arith, length-take n b))))
+    go false e = rw (at_long b n (leb-false _ _ e))
+
+-- a star, and any other byte
+module _ (p t : List ℕ) (i : ℕ) (h : i < length t) where
+  pub replace_star : get_or t i 0 ≡ star → replace star p (drop i t) ≡ p ++ replace star p (drop (i + 1) t)
+  unfolding replace
+  replace_star e = rw (drop_next t i 0 h, eq-eqb (get_or t i 0) star e)
+
+  pub replace_other : (get_or t i 0 ≡ star → ⊥) → replace star p (drop i t) ≡ (get_or t i 0 ∷ []) ++ replace star p (drop (i + 1) t)
+  unfolding replace
+  replace_other n = rw (drop_next t i 0 h, ne_eqb (get_or t i 0) star n)
+
+pub replace_end : (p t : List ℕ) (i : ℕ) → length t ≤ i → replace star p (drop i t) ≡ []
+unfolding replace
+replace_end p t i h = rw (drop_of_length-le t h)
 
 -- the character of a byte
 pub narrow : (x : ℕ) → x < 128 → utf8 x ≡ x ∷ []
@@ -43,30 +54,7 @@ pub wide : (x : ℕ) → 128 ≤ x → x < 256 → utf8 x ≡ (192 + x / 64) ∷
 unfolding utf8 trail
 wide x h k = let l : x < 2048 = omega arith in rw (le-ltb _ _ h, lt-ltb _ _ l)
 
-module _ (b : List ℕ) (n x : ℕ) (w : length b ≡ 2048) where
-  pub narrow_long : x < 128 → 2048 ≤ n → path_at b 2049 ≡ and_path (path_at b n) (λ p. add_extension p (utf8 x))
-  narrow_long h k = rw (narrow x h) (put_never b n (x ∷ []) w (omega arith))
-
-  pub narrow_put : x < 128 → n < 2048 → path_at (set b n x) (n + 1) ≡ and_path (path_at b n) (λ p. add_extension p (utf8 x))
-  narrow_put h k = rw (narrow x h) (put_text b n (x ∷ []) w _ _ refl (omega arith) (rw add-one (take-suc-set b n x (omega arith))))
-
-  module _ (h : 128 ≤ x) (l : x < 256) where
-    pub wide_long : 2047 ≤ n → path_at b 2049 ≡ and_path (path_at b n) (λ p. add_extension p (utf8 x))
-    wide_long k = rw (wide x h l) (put_never b n ((192 + x / 64) ∷ (128 + x % 64) ∷ []) w (omega arith))
-
-    pub wide_put : n < 2047 → path_at (set (set b n (192 + x / 64)) (n + 1) (128 + x % 64)) (n + 2) ≡ and_path (path_at b n) (λ p. add_extension p (utf8 x))
-    wide_put k =
-        let y = 192 + x / 64 in
-        let z = 128 + x % 64 in
-        let one : take (suc n) (set b n y) ≡ take n b ++ y ∷ [] = take-suc-set b n y (omega arith) in
-        let e : n + 1 ≡ suc n = add-one n in
-        let f : n + 2 ≡ suc (suc n) = omega arith in
-        let room : suc n < length (set b n y) = simp length-set (omega arith) in
-        let two : take (suc (suc n)) (set (set b n y) (suc n) z) ≡ take n b ++ y ∷ z ∷ [] =
-        take-suc-set (set b n y) (suc n) z room ∙ ap (λ p. p ++ z ∷ []) one ∙ append_assoc (take n b) (y ∷ []) (z ∷ []) in
-        rw (wide x h l) (put_text b n (y ∷ z ∷ []) w _ _ refl (omega arith) (rw (e, f) two))
-
--- the whole text, as far as it is written, and the text of what is left
+-- the text of what is left
 abbrev pub widened : List ℕ → List ℕ
 widened s = flat_map utf8 (unescape s)
 
@@ -77,6 +65,17 @@ escape_skipped b t e = rw e
 byte_kept : (b : ℕ) (t : List ℕ) → eqb b 0 && starts_with (text "#") t ≡ false → widened (b ∷ t) ≡ utf8 b ++ widened t
 unfolding unescape flat_map
 byte_kept b t e = rw e
+
+module _ (s : List ℕ) (i : ℕ) (h : i < length s) where
+  pub widened_skip : eqb (get_or s i 0) 0 && starts_with (text "#") (drop (i + 1) s) ≡ true → widened (drop i s) ≡ widened (drop (i + 1) s)
+  widened_skip e = rw (drop_next s i 0 h) (escape_skipped (get_or s i 0) (drop (i + 1) s) e)
+
+  pub widened_on : eqb (get_or s i 0) 0 && starts_with (text "#") (drop (i + 1) s) ≡ false → widened (drop i s) ≡ utf8 (get_or s i 0) ++ widened (drop (i + 1) s)
+  widened_on e = rw (drop_next s i 0 h) (byte_kept (get_or s i 0) (drop (i + 1) s) e)
+
+pub widened_end : (s : List ℕ) (i : ℕ) → length s ≤ i → widened (drop i s) ≡ []
+unfolding unescape flat_map
+widened_end s i h = rw (drop_of_length-le s h)
 
 -- a text that is not empty is not empty once it is widened
 utf8_some : (b : ℕ) → 0 < length (utf8 b)
@@ -98,47 +97,3 @@ widened_some (b ∷ s) h = go (eqb b 0 && starts_with (text "#") s) refl (widene
         let l : 1 ≤ length s = starts_with_length (text "#") s (and_true (eqb b 0) _ e).1 in
         rw (escape_skipped b s e) (ih (omega arith))
     go false e ih = rw (byte_kept b s e) (omega (arith, utf8_some b, length-append (utf8 b) (widened s)))
-
--- from a path x₀, what stands in the buffer and what is left of the text
-pub record Widening (s : List ℕ) (x₀ : Built) (out : List ℕ) (n i : ℕ) : Type 0 where
-  pub same : and_path (path_at out n) (λ p. limited (p ++ widened (drop i s))) ≡ and_path x₀ (λ p. limited (p ++ widened s))
-
-pub widening_begin : (s out : List ℕ) (n : ℕ) → Widening s (path_at out n) out n 0
-widening_begin s out n = record { same = refl }
-
-grow : (x : Built) (u r : List ℕ) → and_path (and_path x (λ p. add_extension p u)) (λ p. limited (p ++ r)) ≡ and_path x (λ p. limited (p ++ (u ++ r)))
-unfolding add_extension
-grow (built p) u r = limited_append (p ++ u) r ∙ ap limited (append_assoc p u r)
-grow too_long u r = refl
-
-module _ {s : List ℕ} {x₀ : Built} {out : List ℕ} {n i : ℕ} (g : Widening s x₀ out n i) where
-  pub widening_end : length s ≤ i → path_at out n ≡ and_path x₀ (λ p. add_extension p (widened s))
-  unfolding unescape flat_map add_extension
-  widening_end h = go (leb n 2048) refl
-    where
-      whole : Built
-      whole = and_path x₀ (λ p. limited (p ++ widened s))
-
-      left : and_path (path_at out n) (λ p. limited (p ++ [])) ≡ whole
-      left = rw (drop_of_length-le s h) at g.same
-
-      go : (u : Bool) → leb n 2048 ≡ u → path_at out n ≡ whole
-      go true e =
-          let k : n ≤ 2048 = leb-true _ _ e in
-          let f : limited (take n out ++ []) ≡ whole = rw (at_fits out n k) at left in
-          at_fits out n k ∙ sym (limited_fits (take n out) (omega (arith, length-take n out))) ∙ ap limited (sym (append-nil (take n out))) ∙ f
-      go false e = let k : 2048 < n = leb-false _ _ e in let f : too_long ≡ whole = rw (at_long out n k) at left in at_long out n k ∙ f
-
-  module _ (h : i < length s) where
-    here : drop i s ≡ get_or s i 0 ∷ drop (i + 1) s
-    here = rw (add-one i) (drop-cons s i 0 h)
-
-    pub widening_skip : eqb (get_or s i 0) 0 && starts_with (text "#") (drop (i + 1) s) ≡ true → Widening s x₀ out n (i + 1)
-    widening_skip e =
-        let f : widened (drop i s) ≡ widened (drop (i + 1) s) = rw here (escape_skipped (get_or s i 0) (drop (i + 1) s) e) in
-        record { same = rw f at g.same }
-
-    pub widening_on : eqb (get_or s i 0) 0 && starts_with (text "#") (drop (i + 1) s) ≡ false → {c : List ℕ} {m : ℕ} → path_at c m ≡ and_path (path_at out n) (λ p. add_extension p (utf8 (get_or s i 0))) → Widening s x₀ c m (i + 1)
-    widening_on e k =
-        let f : widened (drop i s) ≡ utf8 (get_or s i 0) ++ widened (drop (i + 1) s) = rw here (byte_kept (get_or s i 0) (drop (i + 1) s) e) in
-        record { same = rw (k, grow (path_at out n) (utf8 (get_or s i 0)) (widened (drop (i + 1) s)), ← f) g.same }

@@ -4,103 +4,75 @@
 
 ghost use Rattle.std.specs.Prelude.{◌≡◌, ◌||◌, ◌≤◌, length};
 ghost use Rattle.definition.specs.Text.{text, equal, ends_with};
-ghost use Rattle.definition.specs.Settings.{settings_of};
-ghost use Rattle.definition.specs.Called.{seen_by};
 ghost use Rattle.definition.specs.Walk.{never};
 ghost use Rattle.definition.specs.Imports.{require_relative};
 ghost use Rattle.consults.specs.Tape.{Done};
-ghost use Rattle.consults.specs.Meaning.{tape_of, step_of};
+ghost use Rattle.consults.specs.Meaning.{settings_in, seen_in, tape_of, step_of, Same};
 ghost use Rattle.directory.specs.Refusals.{room_in, DoneUnless};
 ghost use Rattle.relative.specs.Routines.{unless_folder, directory_or_none};
 
-use consults::{Mark, Out, Way};
+use consults::{Ending, Job, Place, Tape};
+use refusal::Refusal;
+use std::ops::ControlFlow;
 
 // require(X), 3.a: a file is not looked for under "." nor where X ends in "/".
 fn is_folder(x: &[u8]) -> bool
     ensures { result ≡ (equal x.now (text ".") || ends_with (text "/") x.now) }
 {
-    if text::equal(x, b".") {
-        return true;
-    }
-    text::ends_with(x, b"/")
+    text::equal(x, b".") || text::ends_with(x, b"/")
 }
 
 // require(X), 3.a: LOAD_AS_FILE(Y + X).
 fn load_unless_folder(
-    l: &[u8],
-    s: &[u8],
+    job: Job<'_>,
     x: &[u8],
     path: &[u8],
-    res: &mut [u8],
-    nums: &mut [u32],
-    text: &mut [u8],
-    m: Mark,
-) -> Out
-    ensures { Done (seen_by (settings_of s.now) l.now) (unless_folder (settings_of s.now) x.now path.now) (tape_of res.old nums.old text.old m) (tape_of res.new nums.new text.new result.mark) (step_of result.way) }
+    tape: &mut Tape<'_>,
+) -> ControlFlow<Ending>
+    ensures done { Done (seen_in job.entry) (unless_folder (settings_in job.entry) x.now path.now) (tape_of tape.old) (tape_of tape.new) (step_of result) }
+    ensures same { Same tape.old tape.new }
 {
     if is_folder(x) {
-        return consults::next(m);
+        return ControlFlow::Continue(());
     }
-    let none: &[u8] = b"";
-    files::load_as_file(l, s, path, none, none, res, nums, text, m)
+    files::load_as_file(job, Place::bare(path), tape)
 }
 
 // require(X), 3.b and c: LOAD_AS_DIRECTORY(Y + X), or "not found".
 fn load_directory_or_none(
-    l: &[u8],
-    s: &[u8],
+    job: Job<'_>,
     x: &[u8],
     path: &[u8],
-    res: &mut [u8],
-    nums: &mut [u32],
-    text: &mut [u8],
-    m: Mark,
+    tape: &mut Tape<'_>,
     work: &mut [u8],
-) -> Out
+) -> ControlFlow<Ending>
     requires { 1024 ≤ length work.old }
-    ensures { Done (seen_by (settings_of s.now) l.now) (never (directory_or_none (settings_of s.now) x.now path.now)) (tape_of res.old nums.old text.old m) (tape_of res.new nums.new text.new result.mark) (step_of result.way) }
+    ensures done { Done (seen_in job.entry) (never (directory_or_none (settings_in job.entry) x.now path.now)) (tape_of tape.old) (tape_of tape.new) (step_of result) }
+    ensures same { Same tape.old tape.new }
 {
-    let none: &[u8] = b"";
-    let out = directory::load_if_directory(l, s, path, none, none, res, nums, text, m, work);
-    let way = out.way;
-    let Way::Next = way else {
-        return out;
-    };
-    let mark = out.mark;
-    Out {
-        way: Way::Stopped(consults::not_found(x, res)),
-        mark,
-    }
+    directory::load_if_directory(job, Place::bare(path), tape, work)?;
+    ControlFlow::Break(tape.not_found(x))
 }
 
 // require(X) from a directory, 3., for an X that is ".", or begins with "./", "/" or "../": it always ends the lookup. It wants 1,024 bytes of work
 // memory, which end as any bytes: else it refuses with 25 and has looked at nothing.
 pub fn require_relative(
-    l: &[u8],
-    s: &[u8],
+    job: Job<'_>,
     dir: &[u8],
     x: &[u8],
-    res: &mut [u8],
-    nums: &mut [u32],
-    text: &mut [u8],
-    m: Mark,
+    tape: &mut Tape<'_>,
     work: &mut [u8],
-) -> Out
-    ensures { DoneUnless (seen_by (settings_of s.now) l.now) (never (require_relative (settings_of s.now) dir.now x.now)) (tape_of res.old nums.old text.old m) (room_in (length work.old)) (tape_of res.new nums.new text.new result.mark) (step_of result.way) }
+) -> ControlFlow<Ending>
+    ensures done { DoneUnless (seen_in job.entry) (never (require_relative (settings_in job.entry) dir.now x.now)) (tape_of tape.old) (room_in (length work.old)) (tape_of tape.new) (step_of result) }
+    ensures same { Same tape.old tape.new }
 {
     if work.len() < 1024 {
-        return consults::refused(25, m);
+        return ControlFlow::Break(consults::refuse(Refusal::WorkTooShort));
     }
-    let p = path::normalize_with(dir, x);
-    let n = p.len;
-    if n > 2048 {
-        return consults::refused(42, m);
-    }
-    let path = path::first(&p.bytes, n);
-    let out = load_unless_folder(l, s, x, path, res, nums, text, m);
-    let way = out.way;
-    let Way::Next = way else {
-        return out;
+    let built = path::normalize_with(dir, x);
+    let Some(path) = built.as_slice() else {
+        return ControlFlow::Break(consults::refuse(Refusal::PathTooLong));
     };
-    load_directory_or_none(l, s, x, path, res, nums, text, out.mark, work)
+    load_unless_folder(job, x, path, tape)?;
+    load_directory_or_none(job, x, path, tape, work)
 }

@@ -5,18 +5,16 @@ use mathlib.Core.List.{[], ◌++◌}
 use Prim.Native.Nat.{ℕ, ◌+◌, ◌≤◌}
 use native.Mathlib.Omega.{arith}
 use borrow.Author.Tests.{le-leb}
-use lib.Dec.{leb}
-use lib.ListN.{length, take, length-append, length-drop}
+use lib.ListN.{length, length-append, length-drop}
 use Rattle.std.specs.Prelude.{if◌then◌else◌}
 use Rattle.definition.specs.Text.{Text, text, equal, ends_with, contains_text}
-use Rattle.definition.specs.Path.{built, too_long, and_path, limited, normalize_relative}
+use Rattle.definition.specs.Path.{Built, built, too_long, and_path, limited, normalize_relative}
 use Rattle.definition.specs.Specifier.{package_name, package_subpath, normalized_specifier, climbing}
 use Rattle.laws.specs.TextLaws.{equal_true}
 use Rattle.laws.specs.PathLaws.{normalize_relative_short}
 use Rattle.definition.specs.Settings.{Settings}
 use Rattle.definition.specs.Ask.{Listing, Step, go, stop, end, ◌>>=◌, ◌>>◌}
 use Rattle.definition.specs.Walk.{Look, perhaps, not_found, lookup}
-use Rattle.path.specs.Meaning.{path_at}
 use Rattle.consults.specs.declared.Ending.{Ending}
 use Rattle.consults.specs.Tape.{Tape, Done, done_ret, done_bind, done_stop}
 use Rattle.consults.specs.Meaning.{Sees}
@@ -47,17 +45,18 @@ normalized_next spec = by (ends_with (text "/") spec)
     by true = omega (arith, normalize_relative_short spec, length-append (normalize_relative spec) (text "/"))
     by false = omega (arith, normalize_relative_short spec, length-append (normalize_relative spec) [])
 
--- a specifier of at most 512 bytes has a normalised one in the buffer
-pub normalized_here : (spec bytes : Text) (n : ℕ) → length spec ≤ 512 → path_at bytes n ≡ and_path (limited spec) (λ p. limited (normalized_specifier p)) → take n bytes ≡ normalized_specifier spec
-unfolding limited path_at
-normalized_here spec bytes n h e =
+-- a specifier of at most 512 bytes has a normalised one within the limit
+normalized_built : (spec : Text) → length spec ≤ 512 → and_path (limited spec) (λ p. limited (normalized_specifier p)) ≡ built (normalized_specifier spec)
+unfolding limited
+normalized_built spec h =
     let k : length (normalized_specifier spec) ≤ 2048 = omega (arith, normalized_next spec) in
-    let z : path_at bytes n ≡ built (normalized_specifier spec) = e ∙ rw (le-leb (length spec) 2048 (omega arith), le-leb (length (normalized_specifier spec)) 2048 k) in
-    by (leb n 2048) z
-  where
-    by : (t : Bool) → (if t then built (take n bytes) else too_long) ≡ built (normalized_specifier spec) → take n bytes ≡ normalized_specifier spec
-    by true z = cc
-    by false z = absurd (let q : ◌≡◌ {A = ℕ} 0 1 = cc in omega arith)
+    rw (le-leb (length spec) 2048 (omega arith), le-leb (length (normalized_specifier spec)) 2048 k)
+
+pub normalized_here : (spec p : Text) {b : Built} → length spec ≤ 512 → b ≡ and_path (limited spec) (λ p. limited (normalized_specifier p)) → b ≡ built p → p ≡ normalized_specifier spec
+normalized_here spec p h e f = let z : built p ≡ built (normalized_specifier spec) = sym f ∙ e ∙ normalized_built spec h in cc
+
+pub never_long : (spec : Text) {X : Type 0} {b : Built} → length spec ≤ 512 → b ≡ and_path (limited spec) (λ p. limited (normalized_specifier p)) → b ≡ too_long → X
+never_long spec h e f = absurd (let z : built (normalized_specifier spec) ≡ too_long = sym (normalized_built spec h) ∙ sym e ∙ f in let q : ◌≡◌ {A = ℕ} 0 1 = cc in omega arith)
 
 -- the subpath behind ".." is shorter than the specifier
 pub climbing_subpath : (spec : Text) → length spec ≤ 512 → (v : Bool) → v ≡ equal (package_name (normalized_specifier spec)) (text "..") → v ≡ true → length (package_subpath (normalized_specifier spec)) ≤ 512

@@ -32,9 +32,6 @@ unfolding body
 body_take [] = refl
 body_take (b ∷ s) = ap (λ l. b ∷ l) (fragment_take b s)
 
-pub body_inside : (s : List ℕ) → length (body s) ≤ length s
-body_inside s = omega (arith, ap length (body_take s), length-take (length (body s)) s)
-
 -- the first "?" of a part of a text is inside the text
 pub first_of_part : (s : List ℕ) (f q : ℕ) → q ≡ 0 + length (before question (drop 0 (take f s))) → q ≤ length s
 first_of_part s f q e = omega (arith, before_inside question (take f s), length-take f s)

@@ -16,8 +16,7 @@ use path::PathBuf;
 pub fn tail(s: &[u8], at: usize) -> &[u8]
     ensures { result.now ≡ drop at s.now }
 {
-    let n = s.len();
-    if at < n { &s[at..] } else { &s[n..] }
+    &s[at.min(s.len())..]
 }
 
 // What stands from a place on and before another.
@@ -38,19 +37,10 @@ struct Cut {
 fn scan(s: &[u8]) -> Cut
     ensures { Scanned s.now result.fragment result.escaped }
 {
-    if s.len() == 0 {
-        return Cut {
-            fragment: 0,
-            escaped: false,
-        };
-    }
-    let mut prev = s[0];
     let mut escaped = false;
-    let mut i = 1;
-    while i < s.len() {
-        let b = s[i];
-        if b == b'#' {
-            if prev != 0 {
+    for i in 1..s.len() {
+        if s[i] == b'#' {
+            if s[i - 1] != 0 {
                 return Cut {
                     fragment: i,
                     escaped,
@@ -58,11 +48,9 @@ fn scan(s: &[u8]) -> Cut
             }
             escaped = true;
         }
-        prev = b;
-        i += 1;
     }
     Cut {
-        fragment: i,
+        fragment: s.len(),
         escaped,
     }
 }
@@ -90,9 +78,7 @@ impl Specifier {
     pub fn parse(s: &[u8]) -> Specifier
         ensures { meant s.now result ≡ parts_of (parse_specifier s.now) }
     {
-        let c = scan(s);
-        let fragment = c.fragment;
-        let escaped = c.escaped;
+        let Cut { fragment, escaped } = scan(s);
         let query = text::find(&s[..fragment], b'?', 0);
         Specifier {
             query,

@@ -10,31 +10,27 @@ use Rattle.definition.specs.Json.{Read, got, fault, quoted}
 use Rattle.definition.specs.JsonAt.{text_at, told_at}
 use Rattle.laws.specs.JsonAtLaws.{text_told}
 use Rattle.laws.specs.JsonSoundLaws.{quoted_sound}
-use Rattle.definition.specs.Exports as exports
-use Rattle.definition.specs.Exports.{or_old, with_query_fragment}
+use Rattle.definition.specs.Exports.{or_old}
+use Rattle.std.specs.Prelude.{Option}
 use Rattle.json_text.specs.declared.TextAt.{TextAt}
 use Rattle.json_text.specs.Texts.{text_of, told, or_empty}
 use Rattle.targets.specs.declared.Part.{Part}
 use Rattle.targets.specs.Contexts.{read_text, string_at, part_text, Inside}
 
 module _ (m : List ℕ) (p o : Part) (i : Inside m p) where
-  pub left_old : p.len ≡ 0 → part_text m o ≡ or_old (part_text m p) (part_text m o)
+  pub left_old : p.span.len ≡ 0 → part_text m o ≡ or_old (part_text m p) (part_text m o)
   left_old h = go (part_text m p) (i ∙ h)
     where
       go : (t : List ℕ) → length t ≡ 0 → part_text m o ≡ or_old t (part_text m o)
       go [] h = unfold or_old in refl
       go (b ∷ t) h = let z : ⊥ = omega arith in absurd z
 
-  pub replaced : (p.len ≡ 0 → ⊥) → part_text m p ≡ or_old (part_text m p) (part_text m o)
+  pub replaced : (p.span.len ≡ 0 → ⊥) → part_text m p ≡ or_old (part_text m p) (part_text m o)
   replaced n = go (part_text m p) (λ h. n (sym i ∙ h))
     where
       go : (t : List ℕ) → (length t ≡ 0 → ⊥) → t ≡ or_old t (part_text m o)
       go [] h = absurd (h refl)
       go (b ∷ t) h = unfold or_old in refl
-
-pub both : (q f : List ℕ) (c : exports.Context) (x y : List ℕ) → x ≡ or_old q c.query → y ≡ or_old f c.fragment → record { query = x; fragment = y } ≡ with_query_fragment c q f
-unfolding with_query_fragment
-both q f c x y d e = rw (d, e)
 
 -- what a text has between two places
 take_own : (n : ℕ) (s : List ℕ) → take (length (take n s)) s ≡ take n s
@@ -55,20 +51,20 @@ module _ (m : List ℕ) (at : ℕ) (s : List ℕ) (e : string_at m at ≡ s) whe
     cut : x ≡ drop q (take f s)
     cut = i ∙ ap (λ z. take (length s) (drop q z)) h ∙ take_all (length s) (drop q (take f s)) (omega (arith, length-drop q (take f s), length-take f s))
 
-    pub query_part : part_text m (record { at = at; start = q; len = length x }) ≡ drop q (take f s)
+    pub query_part : part_text m (record { at = at; span = record { start = q; len = length x } }) ≡ drop q (take f s)
     query_part = ap (λ z. take (length z) (drop q (string_at m at))) cut ∙ ap (λ z. take (length (drop q (take f s))) (drop q z)) e ∙ between q f s
 
-    pub query_inside : Inside m (record { at = at; start = q; len = length x })
+    pub query_inside : Inside m (record { at = at; span = record { start = q; len = length x } })
     query_inside = ap length (query_part ∙ sym cut)
 
   module _ (f : ℕ) (x : List ℕ) (i : x ≡ take (length s) (drop f s)) where
     rest : x ≡ drop f s
     rest = i ∙ take_all (length s) (drop f s) (omega (arith, length-drop f s))
 
-    pub fragment_part : part_text m (record { at = at; start = f; len = length x }) ≡ drop f s
+    pub fragment_part : part_text m (record { at = at; span = record { start = f; len = length x } }) ≡ drop f s
     fragment_part = ap (λ z. take (length z) (drop f (string_at m at))) rest ∙ ap (λ z. take (length (drop f s)) (drop f z)) e ∙ take_all (length (drop f s)) (drop f s) (omega arith)
 
-    pub fragment_inside : Inside m (record { at = at; start = f; len = length x })
+    pub fragment_inside : Inside m (record { at = at; span = record { start = f; len = length x } })
     fragment_inside = ap length (fragment_part ∙ sym rest)
 
 -- the text of a string, wherever one stands or none
@@ -89,13 +85,13 @@ text_read s w l = by (quoted s) refl
 
 -- the text of a part as the code reads it, and where it puts it
 module _ (m : List ℕ) (p : Part) where
-  pub part_read : (d d' : List ℕ) (t : TextAt) (x y : List ℕ) → 1024 ≤ length d → told m d' t ≡ text_at (drop p.at m) d → x ≡ or_empty (text_of m d' t) → y ≡ take p.len (drop p.start x) → y ≡ part_text m p
-  part_read d d' t x y l e f g = g ∙ ap (λ z. take p.len (drop p.start z)) (f ∙ ap (λ z. or_empty z.text) e ∙ text_read (drop p.at m) d l)
+  pub part_read : (d d' : List ℕ) (t : Option TextAt) (x y : List ℕ) → 1024 ≤ length d → told m d' t ≡ text_at (drop p.at m) d → x ≡ or_empty (text_of m d' t) → y ≡ take p.span.len (drop p.span.start x) → y ≡ part_text m p
+  part_read d d' t x y l e f g = g ∙ ap (λ z. take p.span.len (drop p.span.start z)) (f ∙ ap (λ z. or_empty z.text) e ∙ text_read (drop p.at m) d l)
 
   pub part_short : length (part_text m p) ≤ 1024
-  part_short = omega (arith, length-take p.len (drop p.start (string_at m p.at)), length-drop p.start (string_at m p.at), string_short m p.at)
+  part_short = omega (arith, length-take p.span.len (drop p.span.start (string_at m p.at)), length-drop p.span.start (string_at m p.at), string_short m p.at)
 
-  pub no_part : p.len ≡ 0 → (w : List ℕ) → (0 ≡ length (part_text m p)) × (w ≡ overwrite 0 (part_text m p) w)
+  pub no_part : p.span.len ≡ 0 → (w : List ℕ) → (0 ≡ length (part_text m p)) × (w ≡ overwrite 0 (part_text m p) w)
   unfolding overwrite
   no_part h w = let e : part_text m p ≡ [] = rw h in (rw e, rw e (unchanged (length w - 0)))
     where

@@ -17,7 +17,7 @@ use Rattle.definition.specs.Exports.{Request, with_query_fragment, target_path, 
 use Rattle.path.specs.Meaning.{path_at}
 use Rattle.specifier.specs.declared.Specifier as answer
 use Rattle.specifier.specs.Meaning.{parts, no_path, parts_of, path_text, meant}
-use Rattle.specifier.proofs.Parsed.{body_take, body_inside}
+use Rattle.specifier.proofs.Parsed.{body_take}
 use Rattle.targets.specs.declared.Part.{Part}
 use Rattle.targets.specs.declared.Context.{Context}
 use Rattle.targets.specs.declared.Outcome.TheVariants.{Empty, InvalidTarget}
@@ -25,6 +25,9 @@ use Rattle.targets.specs.Contexts.{string_at, part_text, Inside, context_of}
 use Rattle.targets.specs.Answers.{outcome_in, resolved, path_target}
 use Rattle.targets.proofs.Targets.{limited_same, path_text_lem}
 use Rattle.targets.proofs.Contexts.{query_part, query_inside, fragment_part, fragment_inside}
+
+body_inside : (s : List ℕ) → length (body s) ≤ length s
+body_inside s = omega (arith, ap length (body_take s), length-take (length (body s)) s)
 
 -- a path of bytes is at most twice as long as its specifier
 abbrev pub Bytes : List ℕ → Type 0
@@ -82,11 +85,8 @@ parsed_size s p q f h e = go (path_before (body s)) (from question (body s)) (dr
     go [] y z l g = absurd (let o : ◌≡◌ {A = ℕ} 0 1 = cc in omega arith)
     go (b ∷ x) y z l g = let i : b ∷ x ≡ p = cc in omega (arith, ap length i, body_inside s)
 
--- the path of a target: with "./" in front, and without
+-- the path of a target without "./" in front
 module _ (q : Request) (t : List ℕ) where
-  pub path_valid : starts_with (text "./") t ≡ true → target_path q (normalize_string_target q.key t q.matched) ≡ path_target q t
-  path_valid h = rw h
-
   pub path_invalid : starts_with (text "./") t ≡ false → outcome_in q.package_url q.key q.matched InvalidTarget t ≡ path_target q t
   unfolding invalid_target
   path_invalid h = rw h
@@ -146,10 +146,10 @@ module _ (s : List ℕ) (r : answer.Specifier) (e : meant s r ≡ parts_of (pars
 -- the context from the parts that the code cuts out
 module _ (m : List ℕ) (at : ℕ) (s : List ℕ) (i : string_at m at ≡ s) (q f : ℕ) (g x y : List ℕ) (h : g ≡ take f s) (j : x ≡ take (length s) (drop q g)) (k : y ≡ take (length s) (drop f s)) (c d : Context) where
   abbrev query_of : Part
-  query_of = record { at = at; start = q; len = length x }
+  query_of = record { at = at; span = record { start = q; len = length x } }
 
   abbrev fragment_of : Part
-  fragment_of = record { at = at; start = f; len = length y }
+  fragment_of = record { at = at; span = record { start = f; len = length y } }
 
   pub context_of_lem : (Inside m query_of → Inside m fragment_of → context_of m d ≡ with_query_fragment (context_of m c) (part_text m query_of) (part_text m fragment_of)) → context_of m d ≡ with_query_fragment (context_of m c) (drop q (take f s)) (drop f s)
   context_of_lem w =

@@ -14,11 +14,11 @@ use Rattle.definition.specs.Exports.{Request, found, overlong, target, directory
 use Rattle.path.specs.Meaning.{path_at}
 use Rattle.path.proofs.Steps.{at_fits, at_long, put_fits}
 use Rattle.targets.specs.declared.Context.{Context}
-use Rattle.targets.specs.declared.Form.{Form}
 use Rattle.targets.specs.declared.Form.TheVariants.{Plain, Starred, Folder}
 use Rattle.targets.specs.declared.Outcome.{Outcome}
 use Rattle.targets.specs.declared.Outcome.TheVariants.{InvalidTarget, ConfigDirectory}
 use Rattle.targets.specs.declared.Answer.{Answer}
+use Rattle.targets.specs.declared.Wanted.{Wanted}
 use Rattle.targets.specs.Answers.{outcome_in, answer_of, resolved, Formed, Asked}
 
 clash : {P : Type 0} {x : List ℕ} → built x ≡ too_long → P
@@ -54,6 +54,17 @@ module _ (b : List ℕ) (n : ℕ) (x : Built) (e : path_at b n ≡ x) where
   no_text : 2048 < n → x ≡ too_long
   no_text h = sym e ∙ at_long b n h
 
+pub built_short : (b : List ℕ) (n : ℕ) (t : List ℕ) → path_at b n ≡ built t → length t ≤ 2048
+built_short b n t e = go (leb n 2048) refl
+  where
+    go : (u : Bool) → leb n 2048 ≡ u → length t ≤ 2048
+    go true h =
+        let l = leb-true _ _ h in
+        let f = sym (at_fits b n l) ∙ e in
+        let g : take n b ≡ t = cc in
+        omega (arith, ap length g, length-take n b)
+    go false h = clash (sym e ∙ at_long b n (leb-false _ _ h))
+
 pub limited_same : (t u : List ℕ) → limited t ≡ limited u → length u ≤ 2048 → t ≡ u
 limited_same t u e l = sym (limited_text t u (e ∙ limited_fits u l))
 
@@ -63,9 +74,6 @@ path_text_lem b n t e l = go (leb n 2048) refl
     go : (u : Bool) → leb n 2048 ≡ u → take n b ≡ t
     go true h = limited_text t (take n b) (text_of b n (limited t) e (leb-true _ _ h))
     go false h = clash (sym (limited_fits t l) ∙ no_text b n (limited t) e (leb-false _ _ h))
-
-pub first_short : (n : ℕ) (b t : List ℕ) → t ≡ take n b → n ≤ 2048 → length t ≤ 2048
-first_short n b t e h = omega (arith, ap length e, length-take n b)
 
 -- a text copied to the start of a buffer
 pub copied : (b t : List ℕ) → length b ≡ 2048 → path_at (overwrite 0 t b) (length t) ≡ limited t
@@ -98,51 +106,51 @@ module _ (q : Request) (t : List ℕ) where
     unfolding invalid_target
     target_invalid i = invalid_is i
 
-    module _ (i : is_invalid_exports_target t ≡ false) (url : List ℕ) (u : q.package_url ≡ url) (b : List ℕ) (n : ℕ) (e : path_at b n ≡ normalize_with url t) where
+    module _ (i : is_invalid_exports_target t ≡ false) (url : List ℕ) (u : q.package_url ≡ url) (p : Built) (e : p ≡ normalize_with url t) where
       path_is : outcome_of (normalize_with url t) ≡ target_path q (target t)
       unfolding target_path
       path_is = rw (le-ltb 2048 (length t) h, i, u)
 
-      pub path_over : 2048 < n → overlong ≡ target_path q (target t)
+      pub path_over : p ≡ too_long → overlong ≡ target_path q (target t)
       unfolding outcome_of
-      path_over l = sym (ap outcome_of (no_text b n (normalize_with url t) e l)) ∙ path_is
+      path_over l = sym (ap outcome_of (sym e ∙ l)) ∙ path_is
 
-      pub path_found : n ≤ 2048 → found (take n b) ≡ target_path q (target t)
+      pub path_found : (x : List ℕ) → p ≡ built x → found x ≡ target_path q (target t)
       unfolding outcome_of
-      path_found l = sym (ap outcome_of (text_of b n (normalize_with url t) e l)) ∙ path_is
+      path_found x l = sym (ap outcome_of (sym e ∙ l)) ∙ path_is
 
 -- a target that was built
-module _ (q : Request) (x b : List ℕ) (n : ℕ) (e : path_at b n ≡ limited x) where
-  pub built_over : 2048 < n → overlong ≡ target_path q (target x)
-  built_over l = target_over q x (limited_long x (no_text b n (limited x) e l))
+module _ (q : Request) (x : List ℕ) (p : Built) (e : p ≡ limited x) where
+  pub built_over : p ≡ too_long → overlong ≡ target_path q (target x)
+  built_over l = target_over q x (limited_long x (sym e ∙ l))
 
-  pub built_text : n ≤ 2048 → (s : List ℕ) → s ≡ take n b → target_path q (target s) ≡ target_path q (target x)
-  built_text l s f = ap (λ y. target_path q (target y)) (f ∙ limited_text x (take n b) (text_of b n (limited x) e l))
+  pub built_text : (s : List ℕ) → p ≡ built s → target_path q (target s) ≡ target_path q (target x)
+  built_text s l = ap (λ y. target_path q (target y)) (limited_text x s (sym e ∙ l))
 
 pub appended : (t m : List ℕ) → and_path (limited t) (λ p. add_extension p m) ≡ limited (t ++ m)
 unfolding add_extension
 appended t m = limited_append t m
 
 -- `normalize_string_target`
-module _ {q : Request} {url : List ℕ} {form : Form} {pattern : List ℕ} (a : Asked q url form pattern) (t : List ℕ) where
-  pub plain_target : form ≡ Plain → target t ≡ normalize_string_target q.key t q.matched
+module _ {q : Request} {w : Wanted} (a : Asked q w) (t : List ℕ) where
+  pub plain_target : w.form ≡ Plain → target t ≡ normalize_string_target q.key t q.matched
   unfolding normalize_string_target
   plain_target e = rw (rw e at a.formed)
 
-  pub starred_target : form ≡ Starred → target (replace star pattern t) ≡ normalize_string_target q.key t q.matched
+  pub starred_target : w.form ≡ Starred → target (replace star w.pattern.now t) ≡ normalize_string_target q.key t q.matched
   unfolding normalize_string_target
-  starred_target e = let f : Formed q Starred pattern = rw e at a.formed in rw (f.0, f.1)
+  starred_target e = let f : Formed q Starred w.pattern.now = rw e at a.formed in rw (f.0, f.1)
 
-  module _ (e : form ≡ Folder) where
-    folder : Formed q Folder pattern
+  module _ (e : w.form ≡ Folder) where
+    folder : Formed q Folder w.pattern.now
     folder = rw e at a.formed
 
-    pub folder_star : contains star t ≡ true → target (replace star pattern t) ≡ normalize_string_target q.key t q.matched
+    pub folder_star : contains star t ≡ true → target (replace star w.pattern.now t) ≡ normalize_string_target q.key t q.matched
     unfolding normalize_string_target
     folder_star h = rw (folder.0, folder.1, h)
 
     module _ (h : contains star t ≡ false) where
-      pub folder_both : ends_with (text "/") t ≡ true → target (t ++ pattern) ≡ normalize_string_target q.key t q.matched
+      pub folder_both : ends_with (text "/") t ≡ true → target (t ++ w.pattern.now) ≡ normalize_string_target q.key t q.matched
       unfolding normalize_string_target
       folder_both g = rw (folder.0, folder.1, folder.2, h, g)
 

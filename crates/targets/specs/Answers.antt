@@ -11,6 +11,7 @@ use Rattle.targets.specs.declared.Form.TheVariants.{Plain, Starred, Folder}
 use Rattle.targets.specs.declared.Outcome.{Outcome}
 use Rattle.targets.specs.declared.Outcome.TheVariants.{Found, Nothing, Empty, InvalidTarget, NotExportedMatch, NotExported, ConfigMixed, ConfigDirectory, OverLong}
 use Rattle.targets.specs.declared.Answer.{Answer}
+use Rattle.targets.specs.declared.Wanted.{Wanted}
 use Rattle.targets.specs.Contexts.{context_of}
 
 -- an outcome for a package's directory, the key that led to the target and the pattern match; t is the path, or the target that a failure speaks of
@@ -42,6 +43,6 @@ Formed q Plain p = q.matched ≡ none
 Formed q Starred p = (q.matched ≡ some p) × (contains star q.key ≡ true)
 Formed q Folder p = (q.matched ≡ some p) × (contains star q.key ≡ false) × (ends_with (text "/") q.key ≡ true)
 
-pub record Asked (q : Request) (url : List ℕ) (form : Form) (pattern : List ℕ) : Type 0 where
-  pub directory : q.package_url ≡ url
-  pub formed : Formed q form pattern
+pub record Asked (q : Request) (w : Wanted) : Type 0 where
+  pub directory : q.package_url ≡ w.url.now
+  pub formed : Formed q w.form w.pattern.now

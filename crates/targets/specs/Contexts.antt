@@ -15,10 +15,10 @@ string_at m i = read_text (quoted (drop i m))
 
 -- the text of a part, which is inside its string
 abbrev pub part_text : (m : List ℕ) → Part → List ℕ
-part_text m p = take p.len (drop p.start (string_at m p.at))
+part_text m p = take p.span.len (drop p.span.start (string_at m p.at))
 
 abbrev pub Inside : (m : List ℕ) → Part → Type 0
-Inside m p = length (part_text m p) ≡ p.len
+Inside m p = length (part_text m p) ≡ p.span.len
 
 abbrev pub context_of : (m : List ℕ) → Context → exports.Context
 context_of m c = record { query = part_text m c.query; fragment = part_text m c.fragment }

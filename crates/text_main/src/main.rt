@@ -1,288 +1,311 @@
 // Runs texts with known answers through the functions of `text` and `utf8`, and prints for each group how many are as expected.
-// A table is a byte string of rows. A driver counts its rows up to the first that is not as expected.
 #![tactic(auto)]
 
 use std::io;
 
-fn wide(b: u8) -> usize {
-    b as usize
+// The examples of RFC 3629.
+const EXAMPLES: &[&[u8]] = &[
+    b"A\xE2\x89\xA2\xCE\x91.",
+    b"\xED\x95\x9C\xEA\xB5\xAD\xEC\x96\xB4",
+    b"\xE6\x97\xA5\xE6\x9C\xAC\xE8\xAA\x9E",
+    b"\xEF\xBB\xBF\xF0\xA3\x8E\xB4",
+];
+
+// The first and the last character of each form, and texts of several forms.
+const FORMS: &[&[u8]] = &[
+    b"\x00",
+    b"\x7F",
+    b"\xC2\x80",
+    b"\xDF\xBF",
+    b"\xE0\xA0\x80",
+    b"\xE0\xBF\xBF",
+    b"\xE1\x80\x80",
+    b"\xEC\xBF\xBF",
+    b"\xED\x80\x80",
+    b"\xED\x9F\xBF",
+    b"\xEE\x80\x80",
+    b"\xEF\xBF\xBF",
+    b"\xF0\x90\x80\x80",
+    b"\xF0\xBF\xBF\xBF",
+    b"\xF1\x80\x80\x80",
+    b"\xF3\xBF\xBF\xBF",
+    b"\xF4\x80\x80\x80",
+    b"\xF4\x8F\xBF\xBF",
+    b"",
+    b"a\xC3\xA9b",
+    b"\xF0\x9F\x98\x80\xE2\x82\xAC",
+];
+
+// Characters of two bytes or more.
+const WIDE: &[&[u8]] = &[
+    b"\xC2\x80",
+    b"\xDF\xBF",
+    b"\xE0\xA0\x80",
+    b"\xE0\xBF\xBF",
+    b"\xE1\x80\x80",
+    b"\xEC\xBF\xBF",
+    b"\xED\x80\x80",
+    b"\xED\x9F\xBF",
+    b"\xEE\x80\x80",
+    b"\xEF\xBF\xBF",
+    b"\xF0\x90\x80\x80",
+    b"\xF0\xBF\xBF\xBF",
+    b"\xF1\x80\x80\x80",
+    b"\xF3\xBF\xBF\xBF",
+    b"\xF4\x80\x80\x80",
+    b"\xF4\x8F\xBF\xBF",
+];
+
+const OVERLONG: &[&[u8]] = &[
+    b"\xC0\x80",
+    b"\xC1\xBF",
+    b"\xE0\x80\x80",
+    b"\xE0\x9F\xBF",
+    b"\xF0\x80\x80\x80",
+    b"\xF0\x8F\xBF\xBF",
+];
+
+const SURROGATES: &[&[u8]] = &[
+    b"\xED\xA0\x80",
+    b"\xED\xAF\xBF",
+    b"\xED\xB0\x80",
+    b"\xED\xBF\xBF",
+    b"\xED\xA0\x80\xED\xB0\x80",
+];
+
+const PAST_LAST: &[&[u8]] = &[
+    b"\xF4\x90\x80\x80",
+    b"\xF4\xBF\xBF\xBF",
+    b"\xF5\x80\x80\x80",
+    b"\xF7\xBF\xBF\xBF",
+    b"\xF8\x88\x80\x80\x80",
+    b"\xFC\x84\x80\x80\x80\x80",
+    b"\xFE\xFF",
+    b"\xFF\xFE",
+];
+
+const OUT_OF_PLACE: &[&[u8]] = &[
+    b"\x80",
+    b"\xBF",
+    b"A\x80",
+    b"\xC2A",
+    b"\xC2\xC0",
+    b"\xC2\x80\x80",
+    b"\xE1A\x80",
+    b"\xE1\x80A",
+    b"\xE1\x80\xC0",
+    b"\xF1A\x80\x80",
+    b"\xF1\x80A\x80",
+    b"\xF1\x80\x80A",
+    b"\xF0\x90A\x80",
+    b"\xF4\x8F\x80A",
+    b"\xE2\x82A",
+    b"ab\xC3",
+];
+
+// Two texts, and whether a test holds of them.
+type Pair = (&'static [u8], &'static [u8], bool);
+
+const EQUAL: &[Pair] = &[
+    (b"", b"", true),
+    (b"abc", b"abc", true),
+    (b"abc", b"abd", false),
+    (b"abc", b"ab", false),
+    (b"", b"a", false),
+    (b"abc", b"Abc", false),
+];
+
+const EQUAL_BUT_CASE: &[Pair] = &[
+    (b"node_modules", b"NODE_Modules", true),
+    (b"@AZaz[", b"@azAZ[", true),
+    (b"@", b"`", false),
+    (b"[", b"{", false),
+    (b"ab", b"abc", false),
+    (b"", b"", true),
+    (b"\xC3\x89", b"\xC3\xA9", false),
+];
+
+const ORDER: &[Pair] = &[
+    (b"", b"", false),
+    (b"", b"a", true),
+    (b"a", b"", false),
+    (b"ab", b"abc", true),
+    (b"abc", b"ab", false),
+    (b"abc", b"abd", true),
+    (b"abd", b"abc", false),
+    (b"abc", b"abc", false),
+    (b"a\x7F", b"a\x80", true),
+    (b"a-b", b"a/b", true),
+    (b"B", b"a", true),
+    (b"abz", b"b", true),
+];
+
+const INSIDE: &[Pair] = &[
+    (b"", b"", true),
+    (b"abc", b"", true),
+    (b"", b"a", false),
+    (b"aab", b"ab", true),
+    (b"abc", b"c", true),
+    (b"abc", b"ac", false),
+    (b"ab", b"abc", false),
+    (b"a/node_modules/b", b"/node_modules/", true),
+];
+
+// Where in a text the other stands.
+enum Edge {
+    Start,
+    End,
 }
 
-// The group's name, and how many of its rows are as expected; or the number of the last that is.
-fn report(rt: &impl Print, name: &str, got: usize, rows: usize) -> io::Result<()> {
-    if got == rows {
-        println!(rt; "{name}: {got} as expected")
-    } else {
-        println!(rt; "{name}: not as expected after row {got}")
-    }
+const EDGES: &[(Edge, &[u8], &[u8], bool)] = &[
+    (Edge::Start, b"abc", b"ab", true),
+    (Edge::Start, b"abc", b"", true),
+    (Edge::Start, b"abc", b"abc", true),
+    (Edge::Start, b"abc", b"abcd", false),
+    (Edge::Start, b"abc", b"b", false),
+    (Edge::Start, b"", b"a", false),
+    (Edge::End, b"abc", b"bc", true),
+    (Edge::End, b"abc", b"", true),
+    (Edge::End, b"abc", b"abc", true),
+    (Edge::End, b"abc", b"zabc", false),
+    (Edge::End, b"abc", b"b", false),
+    (Edge::End, b"", b"a", false),
+];
+
+// What is asked of a byte in a text, with the answer.
+enum Asked {
+    Count(usize),
+    Find { from: usize, at: usize },
+    FindLast(usize),
+    Contains(bool),
 }
 
-// A row: a length, and a text of that length. Each is UTF-8, or none is.
-fn utf8_rows(rows: &[u8], good: bool) -> usize {
-    let mut n: usize = 0;
-    let mut at = 0;
-    while at < rows.len() {
-        let start = at + 1;
-        let size = wide(rows[at]);
-        if size > rows.len() - start {
-            return n;
-        }
-        let end = start + size;
-        if utf8::is_utf8(&rows[start..end]) != good {
-            return n;
-        }
-        n += 1;
-        at = end;
+const PLACES: &[(Asked, u8, &[u8])] = &[
+    (Asked::Count(0), b'a', b""),
+    (Asked::Count(3), b'a', b"banana"),
+    (Asked::Count(0), b'z', b"banana"),
+    (Asked::Find { from: 0, at: 1 }, b'a', b"banana"),
+    (Asked::Find { from: 0, at: 0 }, b'b', b"banana"),
+    (Asked::Find { from: 0, at: 6 }, b'z', b"banana"),
+    (Asked::Find { from: 0, at: 0 }, b'z', b""),
+    (Asked::Find { from: 2, at: 3 }, b'a', b"banana"),
+    (Asked::Find { from: 2, at: 2 }, b'n', b"banana"),
+    (Asked::Find { from: 2, at: 6 }, b'b', b"banana"),
+    (Asked::Find { from: 2, at: 2 }, b'b', b"b"),
+    (Asked::Contains(true), b'n', b"banana"),
+    (Asked::Contains(false), b'z', b"banana"),
+    (Asked::Contains(false), b'z', b""),
+    (Asked::FindLast(5), b'a', b"banana"),
+    (Asked::FindLast(0), b'b', b"banana"),
+    (Asked::FindLast(4), b'n', b"banana"),
+    (Asked::FindLast(6), b'z', b"banana"),
+    (Asked::FindLast(0), b'z', b""),
+];
+
+// A place, a text, and what "abcdefgh" is once the text was put there.
+const COPIES: &[(usize, &[u8], &[u8])] = &[
+    (0, b"XYZ", b"XYZdefgh"),
+    (5, b"XYZ", b"abcdeXYZ"),
+    (6, b"XYZ", b"abcdefXY"),
+    (7, b"XYZ", b"abcdefgX"),
+    (8, b"XYZ", b"abcdefgh"),
+    (200, b"XYZ", b"abcdefgh"),
+    (3, b"", b"abcdefgh"),
+    (0, b"ABCDEFGHIJ", b"ABCDEFGH"),
+    (2, b"ABCDEFGHIJ", b"abABCDEF"),
+];
+
+// The places of a buffer of eight, its end, and one past that.
+const FILLS: &[usize] = &[0, 1, 2, 3, 4, 5, 6, 7, 8, 9];
+
+// The group's name, and how many of its rows are as expected; or how many are before the first that is not.
+fn report<T, F: Fn(&T) -> bool>(
+    rt: &impl Print,
+    name: &str,
+    rows: &[T],
+    is_expected: F,
+) -> io::Result<()>
+    requires { F.IsAlwaysCallable is_expected }
+{
+    match rows.iter().position(|row| !is_expected(row)) {
+        None => println!(rt; "{name}: {} as expected", rows.len()),
+        Some(n) => println!(rt; "{name}: not as expected after row {n}"),
     }
-    n
 }
 
 // No shorter start of a character is UTF-8, the empty one apart.
-fn cuts_refused(t: &[u8]) -> bool {
-    for n in 1..t.len() {
-        if utf8::is_utf8(&t[..n]) {
-            return false;
-        }
-    }
-    true
+fn has_no_cut(character: &[u8]) -> bool {
+    (1..character.len()).all(|n| !utf8::is_utf8(&character[..n]))
 }
 
-// A row as above, one character of two bytes or more.
-fn cut_rows(rows: &[u8]) -> usize {
-    let mut n: usize = 0;
-    let mut at = 0;
-    while at < rows.len() {
-        let start = at + 1;
-        let size = wide(rows[at]);
-        if size > rows.len() - start {
-            return n;
-        }
-        let end = start + size;
-        if !cuts_refused(&rows[start..end]) {
-            return n;
-        }
-        n += 1;
-        at = end;
+fn is_edge(edge: &Edge, text: &[u8], other: &[u8]) -> bool {
+    match edge {
+        Edge::Start => text::starts_with(text, other),
+        Edge::End => text::ends_with(text, other),
     }
-    n
 }
 
-// Of the texts of one byte those below 128 are UTF-8.
-fn single_bytes() -> usize {
-    for n in 0..256usize {
-        let s = [n as u8; 1];
-        if utf8::is_utf8(&s) != (n < 128) {
-            return n;
-        }
+fn is_answer(asked: &Asked, b: u8, text: &[u8]) -> bool {
+    match *asked {
+        Asked::Count(n) => text::count(text, b) == n,
+        Asked::Find { from, at } => text::find(text, b, from) == at,
+        Asked::FindLast(at) => text::rfind(text, b) == at,
+        Asked::Contains(wanted) => text::contains(text, b) == wanted,
     }
-    256
 }
 
-fn test(which: u8, a: &[u8], b: &[u8]) -> bool {
-    if which == b'=' {
-        return text::equal(a, b);
-    }
-    if which == b'~' {
-        return text::eq_ignore_ascii_case(a, b);
-    }
-    if which == b'<' {
-        return text::less(a, b);
-    }
-    if which == b'^' {
-        return text::starts_with(a, b);
-    }
-    if which == b'$' {
-        return text::ends_with(a, b);
-    }
-    text::contains_text(a, b)
+fn is_copied(at: usize, text: &[u8], wanted: &[u8]) -> bool {
+    let mut buffer = *b"abcdefgh";
+    text::copy_at(&mut buffer, at, text);
+    buffer.as_slice() == wanted
 }
 
-// A row: a test, its answer (y or n), two lengths, two texts.
-fn pair_rows(rows: &[u8]) -> usize {
-    let mut n: usize = 0;
-    let mut at: usize = 0;
-    while at < rows.len() {
-        if rows.len() - at < 4 {
-            return n;
-        }
-        let a = at + 4;
-        let size = wide(rows[at + 2]);
-        let other = wide(rows[at + 3]);
-        if size > rows.len() - a {
-            return n;
-        }
-        let b = a + size;
-        if other > rows.len() - b {
-            return n;
-        }
-        let end = b + other;
-        if test(rows[at], &rows[a..b], &rows[b..end]) != (rows[at + 1] == b'y') {
-            return n;
-        }
-        n += 1;
-        at = end;
-    }
-    n
-}
-
-fn place(which: u8, s: &[u8], b: u8) -> usize {
-    if which == b'#' {
-        return text::count(s, b);
-    }
-    if which == b'>' {
-        return text::find(s, b, 0);
-    }
-    if which == b'2' {
-        return text::find(s, b, 2);
-    }
-    if which == b'?' {
-        if text::contains(s, b) {
-            return 1;
-        }
-        return 0;
-    }
-    text::rfind(s, b)
-}
-
-// A row: a function, a byte, the answer, a length, a text.
-fn byte_rows(rows: &[u8]) -> usize {
-    let mut n: usize = 0;
-    let mut at: usize = 0;
-    while at < rows.len() {
-        if rows.len() - at < 4 {
-            return n;
-        }
-        let start = at + 4;
-        let size = wide(rows[at + 3]);
-        if size > rows.len() - start {
-            return n;
-        }
-        let end = start + size;
-        if place(rows[at], &rows[start..end], rows[at + 1]) != wide(rows[at + 2]) {
-            return n;
-        }
-        n += 1;
-        at = end;
-    }
-    n
-}
-
-// A row: a place, a length, a text, and what eight bytes "abcdefgh" are once the text was put there.
-fn copy_rows(rows: &[u8]) -> usize {
-    let mut n: usize = 0;
-    let mut at: usize = 0;
-    while at < rows.len() {
-        if rows.len() - at < 10 {
-            return n;
-        }
-        let start = at + 2;
-        let size = wide(rows[at + 1]);
-        if size > rows.len() - start - 8 {
-            return n;
-        }
-        let wanted = start + size;
-        let end = wanted + 8;
-        let mut d = *b"abcdefgh";
-        text::copy_at(&mut d, wide(rows[at]), &rows[start..wanted]);
-        if !text::equal(&d, &rows[wanted..end]) {
-            return n;
-        }
-        n += 1;
-        at = end;
-    }
-    n
-}
-
-// Zeros from place n on, and what was there before it.
-fn filled(n: usize) -> bool {
-    let mut d = [7u8; 8];
-    let mut e = [7u32; 8];
-    text::zero_from(&mut d, n);
-    text::zero_from_u32(&mut e, n);
-    for i in 0..8usize {
-        if (d[i] == 7) != (i < n) {
-            return false;
-        }
-        if (e[i] == 7) != (i < n) {
-            return false;
-        }
-    }
-    true
-}
-
-// The fill from each place on, and from past the end.
-fn fills() -> usize {
-    for n in 0..10usize {
-        if !filled(n) {
-            return n;
-        }
-    }
-    10
+// Zeros from the place on, and before it what was there.
+fn is_filled(from: usize) -> bool {
+    let mut bytes = [7u8; 8];
+    let mut words = [7u32; 8];
+    text::zero_from(&mut bytes, from);
+    text::zero_from(&mut words, from);
+    (0..8usize).all(|i| {
+        let wanted = if i < from { 7 } else { 0 };
+        bytes[i] == wanted && words[i] == u32::from(wanted)
+    })
 }
 
 fn utf8(rt: &impl Print) -> io::Result<()> {
-    report(rt, "utf8, each byte alone", single_bytes(), 256)?;
+    let bytes: [u8; 256] = std::array::from_fn(|i| i as u8);
+    report(
+        rt,
+        "utf8, each byte alone",
+        &bytes,
+        |b| utf8::is_utf8(&[*b]) == b.is_ascii(),
+    )?;
     report(
         rt,
         "utf8, the examples of RFC 3629",
-        utf8_rows(
-            b"\x07A\xE2\x89\xA2\xCE\x91.\x09\xED\x95\x9C\xEA\xB5\xAD\xEC\x96\xB4\x09\xE6\x97\xA5\xE6\x9C\xAC\xE8\xAA\x9E\x07\xEF\xBB\xBF\xF0\xA3\x8E\xB4",
-            true,
-        ),
-        4,
+        EXAMPLES,
+        |t| utf8::is_utf8(t),
     )?;
     report(
         rt,
         "utf8, first and last of each form",
-        utf8_rows(
-            b"\x01\x00\x01\x7F\x02\xC2\x80\x02\xDF\xBF\x03\xE0\xA0\x80\x03\xE0\xBF\xBF\x03\xE1\x80\x80\x03\xEC\xBF\xBF\x03\xED\x80\x80\x03\xED\x9F\xBF\x03\xEE\x80\x80\x03\xEF\xBF\xBF\x04\xF0\x90\x80\x80\x04\xF0\xBF\xBF\xBF\x04\xF1\x80\x80\x80\x04\xF3\xBF\xBF\xBF\x04\xF4\x80\x80\x80\x04\xF4\x8F\xBF\xBF\x00\x04a\xC3\xA9b\x07\xF0\x9F\x98\x80\xE2\x82\xAC",
-            true,
-        ),
-        21,
+        FORMS,
+        |t| utf8::is_utf8(t),
     )?;
-    report(
-        rt,
-        "utf8, cut off",
-        cut_rows(
-            b"\x02\xC2\x80\x02\xDF\xBF\x03\xE0\xA0\x80\x03\xE0\xBF\xBF\x03\xE1\x80\x80\x03\xEC\xBF\xBF\x03\xED\x80\x80\x03\xED\x9F\xBF\x03\xEE\x80\x80\x03\xEF\xBF\xBF\x04\xF0\x90\x80\x80\x04\xF0\xBF\xBF\xBF\x04\xF1\x80\x80\x80\x04\xF3\xBF\xBF\xBF\x04\xF4\x80\x80\x80\x04\xF4\x8F\xBF\xBF",
-        ),
-        16,
-    )?;
-    report(
-        rt,
-        "utf8, overlong",
-        utf8_rows(
-            b"\x02\xC0\x80\x02\xC1\xBF\x03\xE0\x80\x80\x03\xE0\x9F\xBF\x04\xF0\x80\x80\x80\x04\xF0\x8F\xBF\xBF",
-            false,
-        ),
-        6,
-    )?;
-    report(
-        rt,
-        "utf8, surrogates",
-        utf8_rows(
-            b"\x03\xED\xA0\x80\x03\xED\xAF\xBF\x03\xED\xB0\x80\x03\xED\xBF\xBF\x06\xED\xA0\x80\xED\xB0\x80",
-            false,
-        ),
-        5,
-    )?;
+    report(rt, "utf8, cut off", WIDE, |t| has_no_cut(t))?;
+    report(rt, "utf8, overlong", OVERLONG, |t| !utf8::is_utf8(t))?;
+    report(rt, "utf8, surrogates", SURROGATES, |t| !utf8::is_utf8(t))?;
     report(
         rt,
         "utf8, past the last character",
-        utf8_rows(
-            b"\x04\xF4\x90\x80\x80\x04\xF4\xBF\xBF\xBF\x04\xF5\x80\x80\x80\x04\xF7\xBF\xBF\xBF\x05\xF8\x88\x80\x80\x80\x06\xFC\x84\x80\x80\x80\x80\x02\xFE\xFF\x02\xFF\xFE",
-            false,
-        ),
-        8,
+        PAST_LAST,
+        |t| !utf8::is_utf8(t),
     )?;
     report(
         rt,
         "utf8, out of place",
-        utf8_rows(
-            b"\x01\x80\x01\xBF\x02A\x80\x02\xC2A\x02\xC2\xC0\x03\xC2\x80\x80\x03\xE1A\x80\x03\xE1\x80A\x03\xE1\x80\xC0\x04\xF1A\x80\x80\x04\xF1\x80A\x80\x04\xF1\x80\x80A\x04\xF0\x90A\x80\x04\xF4\x8F\x80A\x03\xE2\x82A\x03ab\xC3",
-            false,
-        ),
-        16,
+        OUT_OF_PLACE,
+        |t| !utf8::is_utf8(t),
     )
 }
 
@@ -290,42 +313,32 @@ fn tests(rt: &impl Print) -> io::Result<()> {
     report(
         rt,
         "equal",
-        pair_rows(
-            b"=y\x00\x00=y\x03\x03abcabc=n\x03\x03abcabd=n\x03\x02abcab=n\x00\x01a=n\x03\x03abcAbc",
-        ),
-        6,
+        EQUAL,
+        |(a, b, wanted)| text::equal(a, b) == *wanted,
     )?;
     report(
         rt,
         "equal but for the case",
-        pair_rows(
-            b"~y\x0C\x0Cnode_modulesNODE_Modules~y\x06\x06@AZaz[@azAZ[~n\x01\x01@`~n\x01\x01[{~n\x02\x03ababc~y\x00\x00~n\x02\x02\xC3\x89\xC3\xA9",
-        ),
-        7,
+        EQUAL_BUT_CASE,
+        |(a, b, wanted)| text::eq_ignore_ascii_case(a, b) == *wanted,
     )?;
     report(
         rt,
         "order",
-        pair_rows(
-            b"<n\x00\x00<y\x00\x01a<n\x01\x00a<y\x02\x03ababc<n\x03\x02abcab<y\x03\x03abcabd<n\x03\x03abdabc<n\x03\x03abcabc<y\x02\x02a\x7Fa\x80<y\x03\x03a-ba/b<y\x01\x01Ba<y\x03\x01abzb",
-        ),
-        12,
+        ORDER,
+        |(a, b, wanted)| text::less(a, b) == *wanted,
     )?;
     report(
         rt,
         "start and end",
-        pair_rows(
-            b"^y\x03\x02abcab^y\x03\x00abc^y\x03\x03abcabc^n\x03\x04abcabcd^n\x03\x01abcb^n\x00\x01a$y\x03\x02abcbc$y\x03\x00abc$y\x03\x03abcabc$n\x03\x04abczabc$n\x03\x01abcb$n\x00\x01a",
-        ),
-        12,
+        EDGES,
+        |(edge, a, b, wanted)| is_edge(edge, a, b) == *wanted,
     )?;
     report(
         rt,
         "text in a text",
-        pair_rows(
-            b"*y\x00\x00*y\x03\x00abc*n\x00\x01a*y\x03\x02aabab*y\x03\x01abcc*n\x03\x02abcac*n\x02\x03ababc*y\x10\x0Ea/node_modules/b/node_modules/",
-        ),
-        8,
+        INSIDE,
+        |(a, b, wanted)| text::contains_text(a, b) == *wanted,
     )
 }
 
@@ -333,20 +346,16 @@ fn places(rt: &impl Print) -> io::Result<()> {
     report(
         rt,
         "places and counts of a byte",
-        byte_rows(
-            b"#a\x00\x00#a\x03\x06banana#z\x00\x06banana>a\x01\x06banana>b\x00\x06banana>z\x06\x06banana>z\x00\x002a\x03\x06banana2n\x02\x06banana2b\x06\x06banana2b\x02\x01b?n\x01\x06banana?z\x00\x06banana?z\x00\x00<a\x05\x06banana<b\x00\x06banana<n\x04\x06banana<z\x06\x06banana<z\x00\x00",
-        ),
-        19,
+        PLACES,
+        |(asked, b, text)| is_answer(asked, *b, text),
     )?;
     report(
         rt,
         "copy",
-        copy_rows(
-            b"\x00\x03XYZXYZdefgh\x05\x03XYZabcdeXYZ\x06\x03XYZabcdefXY\x07\x03XYZabcdefgX\x08\x03XYZabcdefgh\xC8\x03XYZabcdefgh\x03\x00abcdefgh\x00\x0AABCDEFGHIJABCDEFGH\x02\x0AABCDEFGHIJabABCDEF",
-        ),
-        9,
+        COPIES,
+        |(at, text, wanted)| is_copied(*at, text, wanted),
     )?;
-    report(rt, "fill", fills(), 10)
+    report(rt, "fill", FILLS, |from| is_filled(*from))
 }
 
 fn main(rt: HostRuntime) -> io::Result<()> {

@@ -1,8 +1,11 @@
 -- What the types of `utf8` mean.
+use Rattle.std.specs.Prelude.{Option, Some, None}
 use Rattle.definition.specs.Text.{Due, due, bad}
 use Rattle.utf8.specs.declared.Owed.{Owed}
-use Rattle.utf8.specs.declared.Owed.TheVariants.{More, Bad}
 
-abbrev pub meant : Owed → Due
-meant (More n lo hi) = due n lo hi
-meant Bad = bad
+abbrev pub due_of : Owed → Due
+due_of o = due o.more o.low o.high
+
+abbrev pub meant : Option Owed → Due
+meant (Some o) = due_of o
+meant None = bad

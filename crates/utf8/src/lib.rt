@@ -2,104 +2,71 @@
 
 #![tactic(auto)]
 
-ghost use Rattle.std.specs.Prelude.{◌≡◌, List, ◌∷◌, ℕ, ◌≤◌, ◌<◌, length, get_or};
-ghost use Rattle.definition.specs.Text.{due, due_after, is_utf8_from, is_utf8};
-ghost use Rattle.utf8.specs.Meaning.{meant};
+ghost use Rattle.std.specs.Prelude.{◌≡◌, List, ◌∷◌, ℕ};
+ghost use Rattle.definition.specs.Text.{due_after, is_utf8_from, is_utf8};
+ghost use Rattle.utf8.specs.Meaning.{due_of, meant};
 
-// What a byte that begins a character leaves due.
+// What a byte leaves due: how many bytes, and the bounds of the next of them.
 #[derive(Clone, Copy)]
-enum Owed {
-    // This many bytes, and the bounds of the next of them.
-    More(u8, u8, u8),
-    Bad,
+struct Owed {
+    more: u8,
+    low: u8,
+    high: u8,
 }
 
-fn opens(b: u8) -> Owed
+// What a byte that begins a character leaves due, if it begins one.
+#[tactic(auto, using(std::proofs::lemmas::Bool::Decides::nat_tests), unfolding(definition::specs::Text::due_after, definition::specs::Text::within))]
+fn opens(b: u8) -> Option<Owed>
     ensures { meant result ≡ due_after b }
 {
-    if b < 128 {
-        return Owed::More(0, 0, 0);
-    }
-    if b < 194 {
-        return Owed::Bad;
-    }
-    if b <= 223 {
-        return Owed::More(1, 128, 191);
-    }
-    if b == 224 {
-        return Owed::More(2, 160, 191);
-    }
-    if b == 237 {
-        return Owed::More(2, 128, 159);
-    }
-    if b <= 239 {
-        return Owed::More(2, 128, 191);
-    }
-    if b == 240 {
-        return Owed::More(3, 144, 191);
-    }
-    if b <= 243 {
-        return Owed::More(3, 128, 191);
-    }
-    if b == 244 {
-        return Owed::More(3, 128, 143);
-    }
-    Owed::Bad
+    let (more, low, high) = match b {
+        0..=127 => (0, 0, 0),
+        194..=223 => (1, 128, 191),
+        224 => (2, 160, 191),
+        237 => (2, 128, 159),
+        225..=239 => (2, 128, 191),
+        240 => (3, 144, 191),
+        241..=243 => (3, 128, 191),
+        244 => (3, 128, 143),
+        _ => return None,
+    };
+    Some(Owed { more, low, high })
 }
 
-// The state after one more byte.
-fn next(n: u8, low: u8, high: u8, b: u8) -> Owed
-    ensures { (s : List ℕ) → is_utf8_from (b ∷ s) (due n low high) ≡ is_utf8_from s (meant result) }
+// The state after one more byte, if that may come.
+fn next(owed: Owed, b: u8) -> Option<Owed>
+    ensures { (s : List ℕ) → is_utf8_from (b ∷ s) (due_of owed) ≡ is_utf8_from s (meant result) }
 {
-    if n == 0 {
+    if owed.more == 0 {
         return opens(b);
     }
-    if b < low {
-        return Owed::Bad;
+    if b < owed.low || owed.high < b {
+        return None;
     }
-    if high < b {
-        return Owed::Bad;
-    }
-    Owed::More(n - 1, 128, 191)
-}
-
-// No byte of s is larger.
-fn largest(s: &[u8]) -> u8
-    ensures { (k : ℕ) → k < length s.now → get_or s.now k 0 ≤ result }
-{
-    let mut m: u8 = 0;
-    let mut i = 0;
-    while i < s.len() {
-        if m < s[i] {
-            m = s[i];
-        }
-        i += 1;
-    }
-    m
+    Some(Owed {
+        more: owed.more - 1,
+        low: 128,
+        high: 191,
+    })
 }
 
 pub fn is_utf8(s: &[u8]) -> bool
     ensures { result ≡ is_utf8 s.now }
 {
-    // Most texts are ASCII, and their largest byte is found many bytes at a time.
-    if largest(s) < 128 {
+    // Most texts are ASCII, which is found many bytes at a time.
+    if s.is_ascii() {
         return true;
     }
-    let mut n: u8 = 0;
-    let mut low: u8 = 0;
-    let mut high: u8 = 0;
-    let mut i = 0;
-    while i < s.len() {
-        let o = next(n, low, high, s[i]);
-        match o {
-            Owed::Bad => return false,
-            Owed::More(m, x, y) => {
-                n = m;
-                low = x;
-                high = y;
-            }
-        }
-        i += 1;
+    let mut owed = Owed {
+        more: 0,
+        low: 0,
+        high: 0,
+    };
+    for b in s {
+        let Some(after) = next(owed, *b) else {
+            return false;
+        };
+        owed = after;
     }
-    n == 0
+    owed.more == 0
 }

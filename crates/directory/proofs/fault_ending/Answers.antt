@@ -2,8 +2,8 @@
 use Rattle.directory.proofs.Manifests.{ending_named, sound_malformed, sound_beyond}
 use Rattle.directory.proofs.fault_ending.Goals as goal
 
-pub returns-in-Malformed : goal.returns-in-Malformed
-returns-in-Malformed c L ns list m = rw c.in-Malformed.is (sound_malformed _ ns list m (ending_named _ _ _ _ _ c.requires c.manifest_ending.ensures))
+pub returns-in-Malformed-clause-done : goal.returns-in-Malformed-clause-done
+returns-in-Malformed-clause-done c L = rw c.in-Malformed.is (sound_malformed _ (ending_named _ _ c.requires c.manifest_ending.ensures.finishes))
 
-pub returns-in-Beyond : goal.returns-in-Beyond
-returns-in-Beyond c L ns list m = rw (c.in-Beyond.is, c.refuse.ensures) (sound_beyond _ ns list m)
+pub returns-in-Beyond-clause-done : goal.returns-in-Beyond-clause-done
+returns-in-Beyond-clause-done c L = rw (c.in-Beyond.is, c.refuse.ensures) (sound_beyond _)

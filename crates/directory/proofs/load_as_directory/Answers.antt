@@ -1,34 +1,23 @@
--- `directory::load_as_directory` meets its contract, by the laws of `Manifests` and `Rooms`.
-use Rattle.definition.specs.Settings.{settings_of}
-use Rattle.definition.specs.Walk.{LOAD_AS_DIRECTORY}
-use Rattle.directory.proofs.Manifests.{own_ended, directory_bare, directory_manifest}
+-- Without work memory a refusal; then by the directory's own manifest, if it has one.
+use Rattle.refusal.specs.declared.Refusal.TheVariants.{WorkTooShort}
+use Rattle.directory.proofs.Manifests.{directory_ended, directory_bare, directory_manifest}
+use Rattle.consults.specs.Meaning.{settings_in}
 use Rattle.directory.proofs.Rooms.{is_done, is_refused_lem, enough, too_little}
 use Rattle.directory.proofs.load_as_directory.Goals as goal
 
-pub returns-then-work-lt1024 : goal.returns-then-work-lt1024
-returns-then-work-lt1024 c = rw c.refused.ensures (is_refused_lem _ 25 (too_little _ c.if-work-lt1024.true))
+pub returns-then-work-lt1024-clause-done : goal.returns-then-work-lt1024-clause-done
+returns-then-work-lt1024-clause-done c = rw c.refuse.ensures (is_refused_lem _ WorkTooShort (too_little _ c.if-work-lt1024.true))
 
-pub returns-in_default : goal.returns-in_default
-returns-in_default c =
-    unfold LOAD_AS_DIRECTORY in
-    let o = c.own-found in
-    let g = settings_of c.args.s.now in
-    is_done _ (enough _ c.if-work-lt1024.false)
-    (own_ended g c.args.l.now o.result.way o.result.package _ c.in_default.in_default-own.keys2 (o.ensures.done g))
+pub returns-in_err-package-clause-done : goal.returns-in_err-package-clause-done
+returns-in_err-package-clause-done c =
+    rw c.from_residual.ensures (is_done _ (enough _ c.if-work-lt1024.false) (directory_ended _ _ (c.in_err-package.ensures.done (settings_in c.args.job))))
 
-pub returns-in_default-package : goal.returns-in_default-package
-returns-in_default-package c =
-    let g = settings_of c.args.s.now in
+pub returns-in_default-clause-done : goal.returns-in_default-clause-done
+returns-in_default-clause-done c =
     is_done _ (enough _ c.if-work-lt1024.false)
-    (directory_bare g _ (rw (c.in-Next.is, c.in_default-package.is) at
-    (c.own-found.ensures.done g)) c.load_index.ensures)
+    (directory_bare _ _ (rw c.in_default.is at (c.in_ok-package.ensures.done (settings_in c.args.job))) c.load_index.ensures.done)
 
-pub returns : goal.returns
-returns c =
-    let o = c.own-found in
-    let p = c.in-At.is in
-    let g = settings_of c.args.s.now in
-    let m = c.contents-manifest.ensures in
+pub returns-clause-done : goal.returns-clause-done
+returns-clause-done c =
     is_done _ (enough _ c.if-work-lt1024.false)
-    (directory_manifest g _ _ (rw (c.in-Next.is, p) at (o.ensures.done g))
-    (c.load_by_manifest.ensures _ (rw m (rw p at o.ensures.held))))
+    (directory_manifest _ _ _ (rw c.in-Some.is at (c.in_ok-package.ensures.done (settings_in c.args.job))) (c.load_by_manifest.ensures.done _ (rw c.in-Some.is at c.in_ok-package.ensures.held)))

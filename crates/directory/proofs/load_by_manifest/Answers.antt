@@ -1,17 +1,14 @@
+-- The main fields, and then the index.
 use Rattle.definition.specs.Ask.{◌>>◌}
 use Rattle.definition.specs.Settings.{settings_of}
 use Rattle.directory.specs.Routines.{by_manifest}
-use Rattle.consults.proofs.Ways.{way_passed, way_onward}
+use Rattle.consults.specs.Tape.{done_bind, done_stop}
 use Rattle.directory.proofs.load_by_manifest.Goals as goal
 
-pub returns-in_default : goal.returns-in_default
+pub returns-in_err-load_main_fields-clause-done : goal.returns-in_err-load_main_fields-clause-done
 unfolding settings_of by_manifest ◌>>◌
-returns-in_default c =
-    let f = c.load_main_fields-out in
-    λ j h. way_passed f.result.way _ (f.ensures j h) c.in_default.in_default-own.keys2
+returns-in_err-load_main_fields-clause-done c j h = rw c.from_residual.ensures (done_stop _ (c.in_err-load_main_fields.ensures.done j h))
 
-pub returns : goal.returns
+pub returns-clause-done : goal.returns-clause-done
 unfolding settings_of by_manifest ◌>>◌
-returns c =
-    let f = c.load_main_fields-out in
-    λ j h. way_onward f.result.way _ (f.ensures j h) c.in-Next.is c.load_index.ensures
+returns-clause-done c j h = done_bind _ (c.in_ok-load_main_fields.ensures.done j h) c.load_index.ensures.done

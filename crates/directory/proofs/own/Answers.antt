@@ -1,26 +1,31 @@
+-- The nearest manifest is kept where it is in the directory itself.
+use mathlib.Core.Path.{sym, ◌∙◌}
 use mathlib.Core.List.{[]}
+use Rattle.definition.specs.Path.{dirs}
 use Rattle.definition.specs.Settings.{settings_of}
-use Rattle.directory.proofs.Manifests.{own_nowhere, own_here, own_above, own_fits, fits_nowhere}
+use Rattle.laws.specs.TextLaws.{equal_true}
+use Rattle.directory.proofs.Manifests.{own_stop, own_nowhere, own_here, own_above, scope_fits}
 use Rattle.directory.proofs.own.Goals as goal
 
-pub returns-in_default : goal.returns-in_default
-returns-in_default c =
-    let f = c.scope-found in
-    let e = c.in_default.is in
-    rw e (record { done = λ G. own_nowhere G _ _ f.result.way (rw e at (f.ensures.done G)); held = tt; fits = fits_nowhere _ f.result.way })
+pub returns-in_err-package-clause-done : goal.returns-in_err-package-clause-done
+returns-in_err-package-clause-done c G = rw c.from_residual.ensures (own_stop G _ (c.in_err-package.ensures.done G))
 
-pub returns-then-n-dir : goal.returns-then-n-dir
-returns-then-n-dir c =
-    let f = c.scope-found in
-    let p = c.in-At.is in
-    let m = c.if-n-dir.true in record {
-      done = rw p (λ G. own_here G _ _ f.result.way _ _ _ _ (rw p at (f.ensures.done G)) m);
-      held = f.ensures.held;
-      fits = rw p (own_fits (settings_of []) _ _ f.result.way _ _ _ _ (rw p at (f.ensures.done (settings_of []))) m);
-    }
+pub returns-in_default-clause-done : goal.returns-in_default-clause-done
+returns-in_default-clause-done c G = own_nowhere G _ (rw c.in_default.is at (c.in_ok-package.ensures.done G))
 
-pub returns : goal.returns
-returns c =
-    let f = c.scope-found in
-    let e = c.in-At.is in
-    record { done = λ G. own_above G _ _ f.result.way _ _ _ _ (rw e at (f.ensures.done G)) c.if-n-dir.false; held = tt; fits = fits_nowhere _ f.result.way }
+pub returns-then-not-equal-clause-done : goal.returns-then-not-equal-clause-done
+returns-then-not-equal-clause-done c G =
+    own_above G _ _ (rw c.in-Some.is at (c.in_ok-package.ensures.done G)) (sym c.equal.ensures ∙ c.if-not-equal.true)
+
+pub returns-clause-done : goal.returns-clause-done
+returns-clause-done c G =
+    own_here G _ _ (rw c.in-Some.is at (c.in_ok-package.ensures.done G)) (sym c.equal.ensures ∙ c.if-not-equal.false)
+
+pub returns-clause-held : goal.returns-clause-held
+returns-clause-held c = rw c.in-Some.is at c.in_ok-package.ensures.held
+
+pub returns-clause-fits : goal.returns-clause-fits
+returns-clause-fits c =
+    let e = equal_true _ _ (sym c.equal.ensures ∙ c.if-not-equal.false) in
+    let h = scope_fits (settings_of []) (dirs c.args.dir.now) _ (rw c.in-Some.is at (c.in_ok-package.ensures.done (settings_of []))) in
+    (e, rw e at h)

@@ -1,18 +1,16 @@
+-- A file, a directory, or nothing.
 use Rattle.directory.proofs.Rooms.{was_done, enough}
 use Rattle.esm_match.proofs.Matches.{match_file, match_directory, match_none}
 use Rattle.esm_match.proofs.resolve_esm_match.Goals as goal
 
-pub returns-in_default : goal.returns-in_default
-returns-in_default c =
-    let f = c.load_as_file-out in
-    match_file _ _ _ f.result.way f.ensures c.in_default.in_default-own.keys2
+pub returns-in_err-load_as_file-clause-done : goal.returns-in_err-load_as_file-clause-done
+returns-in_err-load_as_file-clause-done c = rw c.from_residual.ensures (match_file _ _ _ c.in_err-load_as_file.ensures.done)
 
-pub returns-in_default-way : goal.returns-in_default-way
-returns-in_default-way c =
-    let d = c.load_if_directory-out in
-    match_directory _ _ _ _ c.load_as_file-out.ensures d.result.way c.in-Next.is (was_done (enough _ c.requires) d.ensures) c.in_default-way.in_default-way-own.keys2
+pub returns-in_err-load_if_directory-clause-done : goal.returns-in_err-load_if_directory-clause-done
+returns-in_err-load_if_directory-clause-done c =
+    rw c.from_residual-in_err-load_if_directory.ensures
+    (match_directory _ _ _ c.in_ok-load_as_file.ensures.done (was_done (enough _ c.requires) c.in_err-load_if_directory.ensures.done))
 
-pub returns : goal.returns
-returns c =
-    let d = c.load_if_directory-out in
-    match_none _ _ _ _ c.load_as_file-out.ensures d.result.way c.in-Next.is (was_done (enough _ c.requires) d.ensures) c.in-Next-way.is (c.not_found.ensures _ _ _ _)
+pub returns-clause-done : goal.returns-clause-done
+returns-clause-done c =
+    match_none _ _ _ c.in_ok-load_as_file.ensures.done (was_done (enough _ c.requires) c.in_ok-load_if_directory.ensures.done) (c.not_found.ensures.done _)

@@ -1,11 +1,17 @@
+-- Without work memory a refusal; a place with neither query nor fragment is a bare path.
+use Rattle.refusal.specs.declared.Refusal.TheVariants.{WorkTooShort}
+use Rattle.definition.specs.Walk.{bare}
 use Rattle.directory.proofs.Rooms.{is_done, is_refused_lem, enough, too_little}
 use Rattle.esm_match.proofs.resolve_in_context.Goals as goal
 
-pub returns-then-work-lt1024 : goal.returns-then-work-lt1024
-returns-then-work-lt1024 c = rw c.refused.ensures (is_refused_lem _ 25 (too_little _ c.if-work-lt1024.true))
+pub returns-then-work-lt1024-clause-done : goal.returns-then-work-lt1024-clause-done
+returns-then-work-lt1024-clause-done c = rw c.refuse.ensures (is_refused_lem _ WorkTooShort (too_little _ c.if-work-lt1024.true))
 
-pub returns-then-context-eq0-2 : goal.returns-then-context-eq0-2
-returns-then-context-eq0-2 c = is_done _ (enough _ c.if-work-lt1024.false) (rw (c.if-context-eq0.true, c.if-context-eq0-2.true) c.resolve_esm_match.ensures)
+pub returns-clause-done : goal.returns-clause-done
+returns-clause-done c = is_done _ (enough _ c.if-work-lt1024.false) c.resolve_with_texts.ensures.done
 
-pub returns : goal.returns
-returns c = is_done _ (enough _ c.if-work-lt1024.false) c.resolve_with_texts.ensures
+pub returns-then-context-eq0-2-clause-done : goal.returns-then-context-eq0-2-clause-done
+unfolding bare
+returns-then-context-eq0-2-clause-done c =
+    is_done _ (enough _ c.if-work-lt1024.false)
+    (rw (c.if-context-eq0-2.true, c.if-context-eq0.true) (rw c.bare.ensures at c.resolve_esm_match.ensures.done))

@@ -1,27 +1,16 @@
--- The best key so far is that of the members that were passed (`Besting`).
-use native.Mathlib.Omega.{arith}
-use mathlib.Core.Path.{refl, ◌∙◌}
-use Rattle.exports.proofs.Objects.{best_start, none_yet, best_done, best_over, best_on}
+-- One key more, or none is left.
+use Rattle.exports.proofs.Objects.{best_start, best_on, best_end}
 use Rattle.exports.proofs.best_key.Goals as goal
 
-pub loop-left-init : goal.loop-left-init
-loop-left-init c =
-    let start = c.args in
-    (refl, λ ms h. best_start start.m.now start.subpath.now start.at ms c.first_member-cursor.result _ c.first_member-cursor.ensures h (refl, none_yet))
+pub loop-member-init : goal.loop-member-init
+loop-member-init c ms h =
+    let start = c.members-member-items.ensures in
+    rw c.into_iter-member-iterator.ensures.into_iter_gives
+    (best_start c.args.m.now c.args.subpath.now c.args.at ms _ start.manifest start.first start.left h)
 
-pub returns-in-Nothing : goal.returns-in-Nothing
-returns-in-Nothing c = λ ms h. best_done (c.loop-left.invariant.1 ms h) c.in-Nothing.is
-
-pub better-best-requires : goal.better-best-requires
-better-best-requires c = omega (arith, c.loop-left.invariant.0, c.requires)
-
-pub loop-left-preserved : goal.loop-left-preserved
-loop-left-preserved c =
-    let loop = c.loop-left in
-    let better = c.better-best in (
-      better.auto.work ∙ loop.invariant.0,
-      λ ms h. best_on (loop.invariant.1 ms h) c.in-At.is c.next_member-cursor.result c.next_member-cursor.ensures better.result better.ensures,
-    )
+pub loop-member-preserved : goal.loop-member-preserved
+loop-member-preserved c ms h =
+    best_on (c.loop-member.invariant ms h) c.in-Some.ensures.steps c.better-best.result c.better-best.ensures
 
 pub returns : goal.returns
-returns c = λ ms h. best_over (c.loop-left.invariant.1 ms h) c.loop-left-test.false
+returns c ms h = best_end (c.loop-member.invariant ms h) c.in-None.ensures.steps

@@ -1,18 +1,46 @@
-use mathlib.Core.Path.{refl, sym, ◌∙◌, ap}
-use Rattle.definition.specs.Exports.{pattern_match, best_key}
-use Rattle.targets.specs.Keys.{rank_of, order_of, match_of}
-use Rattle.package_target.proofs.Places.{name_stands, text_target}
-use Rattle.exports.proofs.Objects.{no_match, not_before, before_best, gt_is, lt_is, eq_is, best_rank}
+-- A key that matches is the better one, unless the best so far comes first.
+use Rattle.std.proofs.Common.{Some, None, sym, ◌∙◌, ap}
+use Rattle.definition.specs.Exports.{best_key, pattern_match}
+use Rattle.targets.specs.Keys.{rank_of}
+use Rattle.exports.specs.Chosen.{BestOf}
+use Rattle.exports.proofs.Objects.{no_match, first_match, not_before, before_best, order_gt, no_best, best_rank}
 use Rattle.exports.proofs.better.Goals as goal
 
-pub returns-in-Nothing : goal.returns-in-Nothing
-returns-in-Nothing c o k s j h b = let i = name_stands c.args.m.now 0 c.args.key k s h in let e = text_target i c.args.work.now _ c.read_text-t.result _ c.requires c.read_text-t.ensures c.text_at-name.ensures in rw (no_match c.args.subpath.now o (record { key = k; target = j }) (sym (ap (match_of c.args.subpath.now) c.in-Nothing.is) ∙ c.pattern_match-part.ensures ∙ ap (pattern_match c.args.subpath.now) e)) b
+pub returns-in_default : goal.returns-in_default
+returns-in_default c o k s j h b =
+    let mk = c.args.subpath.now in
+    let e = c.key_at-name.ensures k s h in
+    rw (no_match mk o (record { key = k; target = j }) (c.in_default.ensures ∙ ap (pattern_match mk) e)) b
 
-pub returns-in-Less : goal.returns-in-Less
-returns-in-Less c o k s j h b = let i = name_stands c.args.m.now 0 c.args.key k s h in let e = text_target i c.args.work.now _ c.read_text-t.result _ c.requires c.read_text-t.ensures c.text_at-name.ensures in rw (not_before c.args.subpath.now o (record { key = k; target = j }) (sym (ap (match_of c.args.subpath.now) c.in-Part.is) ∙ c.pattern_match-part.ensures ∙ ap (pattern_match c.args.subpath.now) e) (sym (ap order_of c.in-Less.is) ∙ c.compare-order.ensures (best_key o) k (best_rank c.args.m.now c.args.subpath.now c.args.best o b) (c.rank_of-rank.ensures ∙ ap rank_of e)) lt_is) b
+pub returns-in-None : goal.returns-in-None
+returns-in-None c o k s j h b =
+    let m = c.args.m.now in
+    let mk = c.args.subpath.now in
+    let e = c.key_at-name.ensures k s h in
+    let matched = c.in-Some.ensures ∙ ap (pattern_match mk) e in
+    let old : BestOf m mk None o = rw c.in-None.is at b in
+    rw (no_best m mk o old, first_match mk (record { key = k; target = j }) matched)
+    (record { ranked = c.rank_of-rank.ensures ∙ ap rank_of e; behind = s; named = h; matched = sym matched })
 
-pub returns-in-Equal : goal.returns-in-Equal
-returns-in-Equal c o k s j h b = let i = name_stands c.args.m.now 0 c.args.key k s h in let e = text_target i c.args.work.now _ c.read_text-t.result _ c.requires c.read_text-t.ensures c.text_at-name.ensures in rw (not_before c.args.subpath.now o (record { key = k; target = j }) (sym (ap (match_of c.args.subpath.now) c.in-Part.is) ∙ c.pattern_match-part.ensures ∙ ap (pattern_match c.args.subpath.now) e) (sym (ap order_of c.in-Equal.is) ∙ c.compare-order.ensures (best_key o) k (best_rank c.args.m.now c.args.subpath.now c.args.best o b) (c.rank_of-rank.ensures ∙ ap rank_of e)) eq_is) b
+pub returns-in-Some-best : goal.returns-in-Some-best
+returns-in-Some-best c o k s j h b =
+    let m = c.args.m.now in
+    let mk = c.args.subpath.now in
+    let e = c.key_at-name.ensures k s h in
+    let matched = c.in-Some.ensures ∙ ap (pattern_match mk) e in
+    let ranked = c.rank_of-rank.ensures ∙ ap rank_of e in
+    let old : BestOf m mk (Some c.in-Some-best.old) o = rw c.in-Some-best.is at b in
+    let order = c.compare.ensures (best_key o) k (best_rank m mk _ o old) ranked in
+    rw (before_best mk o (record { key = k; target = j }) matched order (order_gt _ _ c.if-is_gt.ensures))
+    (record { ranked = ranked; behind = s; named = h; matched = sym matched })
 
-pub returns-in-Greater : goal.returns-in-Greater
-returns-in-Greater c o k s j h b = let i = name_stands c.args.m.now 0 c.args.key k s h in let e = text_target i c.args.work.now _ c.read_text-t.result _ c.requires c.read_text-t.ensures c.text_at-name.ensures in rw (before_best c.args.subpath.now o (record { key = k; target = j }) (sym (ap (match_of c.args.subpath.now) c.in-Part.is) ∙ c.pattern_match-part.ensures ∙ ap (pattern_match c.args.subpath.now) e) (sym (ap order_of c.in-Greater.is) ∙ c.compare-order.ensures (best_key o) k (best_rank c.args.m.now c.args.subpath.now c.args.best o b) (c.rank_of-rank.ensures ∙ ap rank_of e)) gt_is) (record { found = refl; ranked = c.rank_of-rank.ensures ∙ ap rank_of e; behind = s; named = h; matched = sym (sym (ap (match_of c.args.subpath.now) c.in-Part.is) ∙ c.pattern_match-part.ensures ∙ ap (pattern_match c.args.subpath.now) e) })
+pub returns-in-Some-2 : goal.returns-in-Some-2
+returns-in-Some-2 c o k s j h b =
+    let m = c.args.m.now in
+    let mk = c.args.subpath.now in
+    let e = c.key_at-name.ensures k s h in
+    let matched = c.in-Some.ensures ∙ ap (pattern_match mk) e in
+    let ranked = c.rank_of-rank.ensures ∙ ap rank_of e in
+    let old : BestOf m mk (Some c.in-Some-best.old) o = rw c.in-Some-best.is at b in
+    let order = c.compare.ensures (best_key o) k (best_rank m mk _ o old) ranked in
+    rw (not_before mk o (record { key = k; target = j }) matched order (order_gt _ _ c.if-is_gt.ensures)) old

@@ -1,19 +1,19 @@
-use native.Mathlib.Omega.{arith}
-use mathlib.Core.Path.{refl, ◌∙◌}
-use Rattle.exports.proofs.Objects.{keyed_start, keyed_done, keyed_over, keyed_on}
+-- One key more, or none is left.
+use Rattle.std.proofs.Common.{◌∙◌, ap}
+use Rattle.exports.specs.Chosen.{a_key}
+use Rattle.exports.proofs.Objects.{keyed_start, keyed_on, keyed_end}
 use Rattle.exports.proofs.keys_of.Goals as goal
 
-pub loop-left-init : goal.loop-left-init
-loop-left-init c = (refl, λ ms h. keyed_start c.args.m.now c.args.at ms c.first_member-cursor.result c.first_member-cursor.ensures h)
+pub loop-member-init : goal.loop-member-init
+loop-member-init c ms h =
+    let start = c.members-member-items.ensures in
+    rw c.into_iter-member-iterator.ensures.into_iter_gives
+    (keyed_start c.args.m.now c.args.at ms _ start.manifest start.first start.left c.default-keys.result c.default-keys.ensures h)
 
-pub returns-in-Nothing : goal.returns-in-Nothing
-returns-in-Nothing c ms h = keyed_done (c.loop-left.invariant.1 ms h) c.in-Nothing.is
-
-pub key_at-key-requires : goal.key_at-key-requires
-key_at-key-requires c = omega (arith, c.loop-left.invariant.0, c.requires)
-
-pub loop-left-preserved : goal.loop-left-preserved
-loop-left-preserved c = (c.key_at-key.auto.work ∙ c.loop-left.invariant.0, λ ms h. keyed_on (c.loop-left.invariant.1 ms h) c.in-At.is c.next_member-cursor.result c.next_member-cursor.ensures c.key_at-key.result c.key_at-key.ensures c.joined-keys.result c.joined-keys.ensures)
+pub loop-member-preserved : goal.loop-member-preserved
+loop-member-preserved c ms h =
+    keyed_on (c.loop-member.invariant ms h) c.in-Some.ensures.steps _
+    (λ k r q. c.of.ensures ∙ ap a_key (c.key_at-key.ensures k r q)) _ c.or-keys.ensures
 
 pub returns : goal.returns
-returns c ms h = keyed_over (c.loop-left.invariant.1 ms h) c.loop-left-test.false
+returns c ms h = keyed_end (c.loop-member.invariant ms h) c.in-None.ensures.steps

@@ -1,10 +1,13 @@
-use mathlib.Core.Path.{sym, ◌∙◌}
+-- A match key with a star is no literal key.
+use Rattle.std.proofs.Common.{sym}
 use Rattle.definition.specs.Exports.{entries}
 use Rattle.exports.proofs.Selections.{get_finds, literal_star, literal_get}
 use Rattle.exports.proofs.literal_at.Goals as goal
 
 pub returns-then-contains : goal.returns-then-contains
-returns-then-contains c ms h = literal_star c.args.m.now c.args.match_key.now (entries ms) (sym c.contains.ensures ∙ c.if-contains.true)
+returns-then-contains c ms h = literal_star c.args.m.now c.args.match_key.now (entries ms) (sym c.if-contains.ensures)
 
 pub returns : goal.returns
-returns c ms h = literal_get c.args.m.now c.args.match_key.now (entries ms) (sym c.contains.ensures ∙ c.if-contains.false) c.get.result (get_finds c.args.m.now c.args.at c.get.result c.args.match_key.now c.get.ensures 14 ms h)
+returns c ms h =
+    literal_get c.args.m.now c.args.match_key.now (entries ms) (sym c.if-contains.ensures) c.get.result
+    (get_finds c.args.m.now c.args.at c.get.result c.args.match_key.now c.get.ensures 14 ms h)

@@ -1,10 +1,13 @@
+-- The part that matched, or ".".
 use Rattle.definition.specs.Exports.{or_dot}
 use Rattle.exports_ending.proofs.match_not_exported.Goals as goal
 
-pub returns-in-Part : goal.returns-in-Part
+pub returns-in-Some-clause-finishes : goal.returns-in-Some-clause-finishes
 unfolding or_dot
-returns-in-Part c = rw c.in-Part.is (record { ending = rw c.part.ensures at c.finish.ensures.ending; texts = rw c.part.ensures at c.finish.ensures.texts })
+returns-in-Some-clause-finishes c =
+    rw c.in-Some.is (record { ending = rw c.of.ensures at c.finish.ensures.ending; texts = rw c.of.ensures at c.finish.ensures.texts })
 
-pub returns-in-Nothing : goal.returns-in-Nothing
+pub returns-in-None-clause-finishes : goal.returns-in-None-clause-finishes
 unfolding or_dot
-returns-in-Nothing c = rw c.in-Nothing.is (record { ending = c.finish-in-Nothing.ensures.ending; texts = c.finish-in-Nothing.ensures.texts })
+returns-in-None-clause-finishes c =
+    rw c.in-None.is (record { ending = c.finish-in-None.ensures.ending; texts = c.finish-in-None.ensures.texts })

@@ -1,25 +1,15 @@
--- `file_or_directory::load_directory_or_file` meets its contract, by the laws of `directory::Rooms` and `Steps`.
-use Rattle.definition.specs.Walk.{bare}
+-- Whether the path is a directory is asked first.
 use Rattle.directory.proofs.Rooms.{was_done, enough}
 use Rattle.file_or_directory.proofs.Steps.{not_told, a_directory, no_directory}
 use Rattle.file_or_directory.proofs.load_directory_or_file.Goals as goal
 
-pub returns-in_default : goal.returns-in_default
-unfolding bare
-returns-in_default c =
-    let t = c.is_directory-told in
-    not_told _ _ t.result.way t.result.yes (t.ensures _ _) c.in_default.in_default-own.keys2
+pub returns-in_err-is_directory-clause-done : goal.returns-in_err-is_directory-clause-done
+returns-in_err-is_directory-clause-done c = rw c.from_residual.ensures (not_told _ _ (c.in_err-is_directory.ensures.done _))
 
-pub returns-then-told : goal.returns-then-told
-unfolding bare
-returns-then-told c =
-    let t = c.is_directory-told in
-    a_directory _ _ t.result.way t.result.yes (t.ensures _ _) c.in-Next.is
-    c.if-told.true (was_done (enough _ c.requires) c.load_as_directory.ensures)
+pub returns-then-branch-clause-done : goal.returns-then-branch-clause-done
+returns-then-branch-clause-done c =
+    a_directory _ _ (c.in_ok-is_directory.ensures.done _) c.if-branch.true (rw c.bare-place.ensures at (was_done (enough _ c.requires) c.load_as_directory.ensures.done))
 
-pub returns : goal.returns
-unfolding bare
-returns c =
-    let t = c.is_directory-told in
-    no_directory _ _ t.result.way t.result.yes (t.ensures _ _) c.in-Next.is
-    c.if-told.false c.load_as_file.ensures
+pub returns-clause-done : goal.returns-clause-done
+returns-clause-done c =
+    no_directory _ _ (c.in_ok-is_directory.ensures.done _) c.if-branch.false (rw c.bare-place.ensures at c.load_as_file.ensures.done)

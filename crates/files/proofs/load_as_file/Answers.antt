@@ -1,48 +1,38 @@
--- The loop's invariant: whatever finishes the extensions from i on finishes all of them from where the loop began.
-use mathlib.Core.Path.{refl, ◌∙◌}
-use mathlib.Core.List.{[]}
-use Prim.Native.Nat.{◌<◌}
-use native.Mathlib.Omega.{arith}
-use lib.ListN.{length}
-use Rattle.definition.specs.Settings.{texts_of, settings_of}
+-- The file itself, and then each extension: the loop goes on with those that are left, or the lookup has ended.
+use Rattle.std.proofs.Common.{rules, ap, ◌∙◌}
+use Rattle.definition.specs.Ask.{◌>>◌}
+use Rattle.definition.specs.Settings.{settings_of}
+use Rattle.definition.specs.Walk.{LOAD_AS_FILE}
+use Rattle.settings.specs.Meaning.{texts_left}
+use Rattle.consults.specs.Tape.{done_bind, done_stop}
 use Rattle.consults.specs.Loop.{left_start, left_again, left_stop, left_end}
-use Rattle.files.proofs.Files.{left_texts, none_left, file_ended, file_then}
-use Rattle.consults.proofs.Ways.{ended, onward}
 use Rattle.files.proofs.load_as_file.Goals as goal
 
-pub returns-in_default : goal.returns-in_default
-unfolding settings_of
-returns-in_default c =
-    let x = ended c.try_file-first.result.way c.in_default.in_default-own.keys2 in
-    file_ended _ _ (c.try_file-first.ensures _) x.0 x.1
+pub returns-in_err-try_file-clause-done : goal.returns-in_err-try_file-clause-done
+unfolding LOAD_AS_FILE ◌>>◌
+returns-in_err-try_file-clause-done c = rw c.from_residual.ensures (done_stop _ (c.in_err-try_file.ensures.done _))
 
-pub loop-i-init : goal.loop-i-init
+pub loop-ext-init : goal.loop-ext-init
 unfolding settings_of
-loop-i-init c = (refl, refl, refl, left_start _ _ _ _ _ refl)
+loop-ext-init c = (
+  search rules,
+  left_start _ _ _ _ _ (ap texts_left c.into_iter-ext-iterator.ensures.into_iter_gives ∙ c.texts-ext-items.ensures),
+)
 
-pub returns-in_default-way : goal.returns-in_default-way
-unfolding settings_of
-returns-in_default-way c =
-    let l = c.loop-i in
-    let more : l.i < length (texts_of c.args.s.now 1) = omega (arith, c.count-n.ensures, c.loop-i-test.true) in
-    let x = ended c.try_extension-out.result.way c.in_default-way.in_default-way-own.keys2 in
-    file_then _ _ (c.try_file-first.ensures _) (onward _ c.in-Next.is)
-    (left_stop _ _ _ _ _ _ _ _ _ _ x.0 (left_texts [] _ _ more) l.invariant.3 x.1 (c.try_extension-out.ensures _))
+pub loop-ext-preserved : goal.loop-ext-preserved
+loop-ext-preserved c = (
+  search rules,
+  left_again _ _ _ _ _ _ _ _ _ c.in-Some.ensures.steps c.loop-ext.invariant.1 (c.in_ok-try_extension.ensures.done _),
+)
 
-pub loop-i-preserved : goal.loop-i-preserved
-unfolding settings_of
-loop-i-preserved c =
-    let l = c.loop-i in
-    let more : l.i < length (texts_of c.args.s.now 1) = omega (arith, c.count-n.ensures, c.loop-i-test.true) in
-    let r = c.try_extension-out in (
-      r.auto.res ∙ l.invariant.0,
-      r.auto.nums ∙ l.invariant.1,
-      r.auto.text ∙ l.invariant.2,
-      left_again _ _ _ _ _ _ _ _ _ _ (left_texts [] _ _ more) l.invariant.3 (onward _ c.in-Next-way.is) (r.ensures _),
-    )
+pub returns-in_err-try_extension-clause-done : goal.returns-in_err-try_extension-clause-done
+unfolding LOAD_AS_FILE ◌>>◌
+returns-in_err-try_extension-clause-done c =
+    rw c.from_residual-in_err-try_extension.ensures (done_bind _ (c.in_ok-try_file.ensures.done _)
+    (left_stop _ _ _ _ _ _ _ _ _ _ c.in-Some.ensures.steps c.loop-ext.invariant.1 (c.in_err-try_extension.ensures.done _)))
 
-pub returns : goal.returns
-unfolding settings_of
-returns c =
-    rw c.next.ensures (file_then _ _ (c.try_file-first.ensures _) (onward _ c.in-Next.is)
-    (left_end _ _ _ _ _ _ (none_left (texts_of c.args.s.now 1) c.loop-i.i (omega (arith, c.count-n.ensures, c.loop-i-test.false))) c.loop-i.invariant.3))
+pub returns-clause-done : goal.returns-clause-done
+unfolding LOAD_AS_FILE ◌>>◌
+returns-clause-done c =
+    done_bind _ (c.in_ok-try_file.ensures.done _)
+    (left_end _ _ _ _ _ _ c.in-None.ensures.steps.0 c.loop-ext.invariant.1)

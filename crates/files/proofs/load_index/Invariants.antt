@@ -1,17 +1,12 @@
-use mathlib.Core.Path.{◌≡◌}
-use Prim.Native.Nat.{◌-◌}
-use lib.ListN.{length, drop}
-use Rattle.definition.specs.Settings.{texts_of, settings_of}
-use Rattle.definition.specs.Called.{seen_by}
+-- Whatever finishes the main files that are left finishes all of them from where the loop began.
+use Rattle.settings.specs.Meaning.{texts_left}
 use Rattle.consults.specs.Loop.{Left}
-use Rattle.consults.specs.Meaning.{tape_of, place}
+use Rattle.consults.specs.Meaning.{tape_of, place_of, seen_in, settings_in, Same}
 use Rattle.files.specs.Meaning.{load_main_file}
 use Rattle.files.proofs.load_index.Given as goal
 
-abbrev pub invariant-loop-i : goal.invariant-loop-i
-invariant-loop-i l =
-    (length l.res ≡ length l.initial.res) × (length l.nums ≡ length l.initial.nums) × (length l.text ≡ length l.initial.text)
-    × Left (seen_by (settings_of l.s) l.l) (load_main_file (settings_of l.s) (place l.path l.query l.fragment)) (texts_of l.s 3) (tape_of l.initial.res l.initial.nums l.initial.text l.initial.mark) (drop l.i (texts_of l.s 3)) (tape_of l.res l.nums l.text l.mark)
-
-abbrev pub decreases-loop-i : goal.decreases-loop-i
-decreases-loop-i l = l.n - l.i
+abbrev pub invariant-loop-file : goal.invariant-loop-file
+invariant-loop-file l =
+    let G = settings_in l.job in
+    Same l.initial.tape l.tape
+    × Left (seen_in l.job) (load_main_file G (place_of l.place)) G.main_files (tape_of l.initial.tape) (texts_left l.file-iterator) (tape_of l.tape)

@@ -1,8 +1,6 @@
--- `files::try_extension` meets its contract, by the laws of `Files`.
+-- The path that was built is the definition's.
 use Rattle.files.proofs.Files.{extension_tried}
 use Rattle.files.proofs.try_extension.Goals as goal
 
-pub returns : goal.returns
-returns c =
-    λ G. extension_tried G _ _ _ _ (c.try_path.ensures G) _
-    (rw c.text-ext.ensures at c.add_extension-p.ensures)
+pub returns-clause-done : goal.returns-clause-done
+returns-clause-done c = λ G. extension_tried G _ _ (c.try_path.ensures.done G) _ c.add_extension-path.ensures

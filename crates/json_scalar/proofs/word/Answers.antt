@@ -1,24 +1,10 @@
-use mathlib.Core.Path.{refl, ◌∙◌}
-use Rattle.definition.specs.Json.{word}
-use Rattle.json_string.proofs.Rules.{rules}
+-- By whether the bytes from the place on begin with the word.
+use mathlib.Core.Path.{refl}
+use Rattle.json_scalar.proofs.Words.{word_there, word_other}
 use Rattle.json_scalar.proofs.word.Goals as goal
 
-pub loop-k-init : goal.loop-k-init
-unfolding word
-loop-k-init c = refl
+pub returns-then-starts_with : goal.returns-then-starts_with
+returns-then-starts_with c = word_there c.args.m.now c.args.rest.now _ c.args.at refl c.starts_with.ensures.value c.if-starts_with.true
 
-pub returns-then-i-m : goal.returns-then-i-m
-unfolding word
-returns-then-i-m c = record { is = c.loop-k.invariant ∙ search rules depth 9 fits 3000 }
-
-pub returns-then-m-i : goal.returns-then-m-i
-unfolding word
-returns-then-m-i c = record { is = c.loop-k.invariant ∙ search rules depth 9 fits 3000 }
-
-pub loop-k-preserved : goal.loop-k-preserved
-unfolding word
-loop-k-preserved c = c.loop-k.invariant ∙ search rules depth 9 fits 3000
-
-pub returns : goal.returns
-unfolding word
-returns c = record { is = c.loop-k.invariant ∙ search rules }
+pub returns-else-starts_with : goal.returns-else-starts_with
+returns-else-starts_with c = word_other c.args.m.now c.args.rest.now _ c.args.at refl c.starts_with.ensures.value c.if-starts_with.false

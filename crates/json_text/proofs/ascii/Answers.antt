@@ -1,26 +1,24 @@
-use Rattle.json_text.proofs.Strings.{begun, begun_on}
+-- Within the limit of a string, and before the end.
+use mathlib.Core.Path.{◌∙◌, ap}
+use native.Mathlib.Omega.{arith}
+use borrow.Author.Tests.{tests}
+use borrow.Author.Rules.{rules}
+use Rattle.std.specs.Prelude.{not}
+use Rattle.std.specs.List.{prefix_len}
+use Rattle.std.proofs.lemmas.Iterator.{YieldsList-from_slice}
+use Rattle.std.proofs.lemmas.Iterator.Search.{position_from_yields_List}
+use Rattle.json_text.specs.Decoded.{is_plain}
+use Rattle.json_text.proofs.Positions.{position_else, until_failing}
+use Rattle.json_text.proofs.Strings.{begun, ends_within}
 use Rattle.json_text.proofs.ascii.Goals as goal
 
-pub loop-i-init : goal.loop-i-init
-loop-i-init c = begun _ _
-
-pub returns-then-b-lt32 : goal.returns-then-b-lt32
-returns-then-b-lt32 c = c.loop-i.invariant
-
-pub returns-then-b-ge128 : goal.returns-then-b-ge128
-returns-then-b-ge128 c = c.loop-i.invariant
-
-pub returns-then-b-eq34 : goal.returns-then-b-eq34
-returns-then-b-eq34 c = c.loop-i.invariant
-
-pub returns-then-b-eq92 : goal.returns-then-b-eq92
-returns-then-b-eq92 c = c.loop-i.invariant
-
-pub returns-then-i-at-ge-ROOM : goal.returns-then-i-at-ge-ROOM
-returns-then-i-at-ge-ROOM c = c.loop-i.invariant
-
-pub loop-i-preserved : goal.loop-i-preserved
-loop-i-preserved c = begun_on c.loop-i.invariant c.loop-i-test.true c.if-b-lt32.false c.if-b-ge128.false c.if-b-eq34.false c.if-b-eq92.false c.if-i-at-ge-ROOM.false
+pub overflow_add-result : goal.overflow_add-result
+overflow_add-result c =
+    let place = position_from_yields_List (λ b. not (is_plain b)) _ _ c.position.result c.position.ensures.ran (YieldsList-from_slice c.part-text.result.now c.iter.ensures.rest) (λ x b q k. search (rules, tests)) in
+    let l = ends_within c.args.m.now c.args.at _ (c.unwrap_or.ensures ∙ position_else (λ b. not (is_plain b)) c.part-text.result.now place ∙ until_failing is_plain c.part-text.result.now ∙ ap (prefix_len is_plain) c.part-text.ensures) in
+    omega arith
 
 pub returns : goal.returns
-returns c = c.loop-i.invariant
+returns c =
+    let place = position_from_yields_List (λ b. not (is_plain b)) _ _ c.position.result c.position.ensures.ran (YieldsList-from_slice c.part-text.result.now c.iter.ensures.rest) (λ x b q k. search (rules, tests)) in
+    begun c.args.m.now c.args.at _ (c.unwrap_or.ensures ∙ position_else (λ b. not (is_plain b)) c.part-text.result.now place ∙ until_failing is_plain c.part-text.result.now ∙ ap (prefix_len is_plain) c.part-text.ensures)

@@ -1,26 +1,47 @@
+-- By the laws of the loop that decodes a string.
 use mathlib.Core.Path.{refl, ◌∙◌, ap}
 use lib.ListN.{drop}
-use Rattle.json_text.proofs.Buffer.{begin, at_end_lem, on_bad, on_close, fair, on_over, on_gives}
+use Rattle.std.proofs.lemmas.Result.{err_from_is_err_and}
+use Rattle.json_text.proofs.Buffer.{begin, at_end_lem, on_bad, on_close, on_over, on_gives}
 use native.Mathlib.Omega.{arith}
 use Rattle.json_text.proofs.decode.Goals as goal
 
 pub loop-i-init : goal.loop-i-init
 loop-i-init c = (refl, begin _ _ _)
 
-pub returns-in-Bad : goal.returns-in-Bad
-returns-in-Bad c = record { is = on_bad c.loop-i.invariant.1 c.loop-i-test.true c.advance-s.ensures c.in-Bad.is; kept = (c.loop-i.n, c.loop-i.invariant.1.kept) }
+pub returns-in_default : goal.returns-in_default
+returns-in_default c =
+    let g = c.loop-i.invariant.1 in
+    record { is = on_bad g (omega arith) c.in_default.ensures; kept = (c.loop-i.len, g.kept) }
 
 pub returns-in-Close : goal.returns-in-Close
-returns-in-Close c = record { is = on_close c.loop-i.invariant.1 c.loop-i-test.true c.advance-s.ensures c.in-Close.is; kept = (c.loop-i.invariant.1.room, c.loop-i.invariant.1.kept) }
+returns-in-Close c =
+    let g = c.loop-i.invariant.1 in
+    record { is = on_close g (omega arith) (rw c.in-Close.is at c.in-Some.ensures); kept = (g.room, g.kept) }
 
-pub put_out-t-requires : goal.put_out-t-requires
-put_out-t-requires c = (c.loop-i.invariant.1.room, omega (arith, c.loop-i.invariant.0, c.requires), fair c.loop-i.invariant.1 c.loop-i-test.true c.advance-s.ensures c.in-Gives.is)
+pub put_out-requires : goal.put_out-requires
+put_out-requires c =
+    let g = c.loop-i.invariant.1 in
+    (g.room, omega (arith, c.loop-i.invariant.0, c.requires))
 
-pub returns-in-Over : goal.returns-in-Over
-returns-in-Over c = record { is = on_over c.loop-i.invariant.1 c.loop-i-test.true c.advance-s.ensures c.in-Gives.is (rw c.in-Over.is at c.put_out-t.ensures).0; kept = (c.loop-i.n, ap (drop c.loop-i.n) (rw c.in-Over.is at c.put_out-t.ensures).1 ∙ c.loop-i.invariant.1.kept) }
+pub returns-in_err-len-in-Gives : goal.returns-in_err-len-in-Gives
+returns-in_err-len-in-Gives c =
+    let g = c.loop-i.invariant.1 in
+    let over = c.in_err-len-in-Gives.ensures in
+    let out = err_from_is_err_and c.from_residual.result c.from_residual.ensures.1 in
+    rw (out.1, out.2, over.0) (record {
+      is = on_over g (omega arith) (rw c.in-Gives.is at c.in-Some.ensures) over.1;
+      kept = (c.loop-i.len, ap (drop c.loop-i.len) over.2 ∙ g.kept);
+    })
 
 pub loop-i-preserved : goal.loop-i-preserved
-loop-i-preserved c = (c.put_out-t.auto.w ∙ c.loop-i.invariant.0, on_gives c.loop-i.invariant.1 c.loop-i-test.true c.advance-s.ensures c.in-Gives.is (rw c.in-To.is at c.put_out-t.ensures))
+loop-i-preserved c =
+    let g = c.loop-i.invariant.1 in (
+      c.put_out.auto.w ∙ c.loop-i.invariant.0,
+      on_gives g (omega arith) (rw c.in-Gives.is at c.in-Some.ensures) c.in_ok-len-in-Gives.ensures,
+    )
 
 pub returns : goal.returns
-returns c = record { is = at_end_lem c.loop-i.invariant.1 c.loop-i-test.false; kept = (c.loop-i.n, c.loop-i.invariant.1.kept) }
+returns c =
+    let g = c.loop-i.invariant.1 in
+    record { is = at_end_lem g (omega arith); kept = (c.loop-i.len, g.kept) }

@@ -51,7 +51,7 @@ overflow_add-end c =
       c.pass_below-s.ensures.0.few,
       c.pass_below-s.ensures.0.small,
       c.pass_below-s.ensures.0.index,
-      c.number_at.ensures.1,
+      c.number_at.ensures.small,
     )
 
 pub slice_bounds-is_below-end : goal.slice_bounds-is_below-end
@@ -61,7 +61,7 @@ slice_bounds-is_below-end c =
     let k = c.number_at in
     let h : p.result.index < a.n = omega (arith, c.if-i-to.false, c.requires.1) in
     ends_within a.l.now a.path.now a.n p.result.index p.result.at k.result p.ensures.0 h
-    k.ensures.0 a.to c.if-i-to.false c.requires.2
+    k.ensures.is a.to c.if-i-to.false c.requires.2
 
 pub returns-then-not-is_below : goal.returns-then-not-is_below
 returns-then-not-is_below c =
@@ -71,7 +71,7 @@ returns-then-not-is_below c =
     let h : p.result.index < a.n = omega (arith, c.if-i-to.false, c.requires.1) in (
       λ e. absurd (false≢true e),
       λ e z. stop_none a.l.now a.path.now a.n p.result.index p.result.at
-          k.result p.ensures.0 h k.ensures.0 a.to c.if-i-to.false c.requires.2 z
+          k.result p.ensures.0 h k.ensures.is a.to c.if-i-to.false c.requires.2 z
           (p.ensures.3 a.path.now c.words_of-w.ensures.0 c.loop-i.invariant.2)
           (sym c.is_below.ensures ∙ c.if-not-is_below.true),
     )
@@ -98,9 +98,9 @@ overflow_add-at-in-loop-i c =
       c.pass_below-s.ensures.0.few,
       c.pass_below-s.ensures.0.small,
       c.pass_below-s.ensures.0.index,
-      c.number_at.ensures.1,
-      c.number_at-c.ensures.1,
-      c.contents_length.ensures.1,
+      c.number_at.ensures.small,
+      c.number_at-c.ensures.small,
+      c.contents_length.ensures.small,
     )
 
 pub overflow_add-i-in-loop-i : goal.overflow_add-i-in-loop-i
@@ -118,12 +118,12 @@ loop-i-preserved c =
     let m = c.number_at-c in
     let x = c.contents_length in (
       reached_next a.l.now a.path.now a.n p.result.index p.result.at k.result p.ensures.0 h
-          k.ensures.0 m.result m.ensures.0 x.ensures k.ensures.1 m.ensures.1,
+          k.ensures.is m.result m.ensures.is (x.ensures.is, x.ensures.small) k.ensures.small m.ensures.small,
       omega
           (arith, c.if-i-to.false),
       below_next a.l.now a.path.now a.n p.result.index p.result.at k.result
-          p.ensures.0 h k.ensures.0 m.result m.ensures.0 (sym c.is_below.ensures
-          ∙ c.if-not-is_below.false) x.ensures.0
+          p.ensures.0 h k.ensures.is m.result m.ensures.is (sym c.is_below.ensures
+          ∙ c.if-not-is_below.false) x.ensures.is
           (p.ensures.3 a.path.now c.words_of-w.ensures.0 c.loop-i.invariant.2),
     )
 

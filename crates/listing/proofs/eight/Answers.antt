@@ -1,8 +1,7 @@
--- Eight bytes by their numbers of four.
-use Rattle.listing.proofs.Eights.{eight_of}
+-- The library's number of eight bytes, the first the highest, is that of the meaning.
+use Rattle.std.proofs.Common.{◌∙◌}
+use Rattle.listing.proofs.Numbers.{eight_high}
 use Rattle.listing.proofs.eight.Goals as goal
 
 pub returns : goal.returns
-returns c =
-    let a = c.args in
-    eight_of a.s.now a.k _ _ c.high.ensures.0 c.high-2.ensures.0
+returns c = c.from_be_bytes.ensures ∙ eight_high c.args.s.now c.args.k

@@ -9,13 +9,10 @@ loop-i-init c = (c.requires, λ j u. let z : ⊥ = omega arith in absurd z)
 pub returns-then-i-to : goal.returns-then-i-to
 returns-then-i-to c =
     let p = c.pass_others-s.ensures in
-    (p.0, omega (arith, c.if-i-to.true, c.least-to.ensures), p.3 c.if-i-to.true, p.2 c.loop-i.invariant.1)
+    (p.0, omega (arith, c.if-i-to.true, c.min-to.ensures), p.3 c.if-i-to.true, p.2 c.loop-i.invariant.1)
 
 pub returns-then-is_past : goal.returns-then-is_past
 returns-then-is_past c = c.is_past.ensures c.if-is_past.true (c.pass_others-s.ensures.2 c.loop-i.invariant.1)
-
-pub loop-i-preserved-else-is_past : goal.loop-i-preserved-else-is_past
-loop-i-preserved-else-is_past c = let p = c.pass_others-s.ensures in (p.0, p.2 c.loop-i.invariant.1)
 
 pub loop-i-preserved : goal.loop-i-preserved
 loop-i-preserved c = let p = c.pass_others-s.ensures in (p.0, p.2 c.loop-i.invariant.1)

@@ -15,7 +15,7 @@ pub number_at-requires : goal.number_at-requires
 number_at-requires c = omega (arith, c.requires.0.tables, c.requires.1)
 
 pub overflow_add-end : goal.overflow_add-end
-overflow_add-end c = omega (arith, c.requires.0.few, c.requires.0.small, c.requires.1, c.number_at.ensures.1)
+overflow_add-end c = omega (arith, c.requires.0.few, c.requires.0.small, c.requires.1, c.number_at.ensures.small)
 
 pub returns-then-end-l : goal.returns-then-end-l
 returns-then-end-l c = λ e s. absurd (false≢true e)
@@ -24,5 +24,5 @@ pub returns : goal.returns
 returns c =
     let a = c.args in
     let k = c.number_at in
-    λ e. past_here a.l.now a.path.now a.n a.i a.at k.result c.requires.0 c.requires.1 k.ensures.0
+    λ e. past_here a.l.now a.path.now a.n a.i a.at k.result c.requires.0 c.requires.1 k.ensures.is
     (omega (arith, c.if-end-l.false)) (sym c.is_below.ensures ∙ e)

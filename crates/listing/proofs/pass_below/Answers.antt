@@ -52,7 +52,7 @@ overflow_add-at-in-loop-i c =
       c.loop-i.invariant.0.small,
       c.loop-i-test.true,
       c.requires.2,
-      c.number_at-k.ensures.1,
+      c.number_at-k.ensures.small,
     )
 
 pub overflow_add-at-in-loop-i-2 : goal.overflow_add-at-in-loop-i-2
@@ -63,9 +63,9 @@ overflow_add-at-in-loop-i-2 c =
       c.loop-i.invariant.0.small,
       c.loop-i-test.true,
       c.requires.2,
-      c.number_at-k.ensures.1,
-      c.number_at-c.ensures.1,
-      c.contents_length.ensures.1,
+      c.number_at-k.ensures.small,
+      c.number_at-c.ensures.small,
+      c.contents_length.ensures.small,
     )
 
 pub loop-i-preserved : goal.loop-i-preserved
@@ -77,12 +77,12 @@ loop-i-preserved c =
     let m = c.number_at-c in
     let x = c.contents_length in
     let z = c.if-not-surely_below.false in (
-      reached_next a.l.now a.l.now a.n o.i o.at k.result o.invariant.0 h k.ensures.0 m.result
-          m.ensures.0 x.ensures k.ensures.1 m.ensures.1,
+      reached_next a.l.now a.l.now a.n o.i o.at k.result o.invariant.0 h k.ensures.is m.result
+          m.ensures.is (x.ensures.is, x.ensures.small) k.ensures.small m.ensures.small,
       omega (arith, o.invariant.1),
       omega (arith, c.loop-i-test.true),
-      λ q e s. below_next a.l.now q a.n o.i o.at k.result o.invariant.0 h k.ensures.0 m.result m.ensures.0
-          (rest_below a.l.now q o.at k.result (c.surely_below.ensures z q e)) x.ensures.0
+      λ q e s. below_next a.l.now q a.n o.i o.at k.result o.invariant.0 h k.ensures.is m.result m.ensures.is
+          (rest_below a.l.now q o.at k.result (c.surely_below.ensures z q e)) x.ensures.is
           (o.invariant.3 q e s),
     )
 

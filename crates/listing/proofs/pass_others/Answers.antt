@@ -23,7 +23,7 @@ overflow_add-end c =
       c.loop-i.invariant.0.small,
       c.requires.2,
       c.loop-i-test.true,
-      c.number_at.ensures.1,
+      c.number_at.ensures.small,
     )
 
 pub returns-then-matches : goal.returns-then-matches
@@ -35,7 +35,7 @@ returns-then-matches c =
       o.invariant.1,
       o.invariant.2,
       λ u. has_here a.l.now a.path.now a.n o.i o.at k.result o.invariant.0
-          (omega (arith, c.loop-i-test.true, c.requires.2)) k.ensures.0 c.matches.ensures c.if-matches.true,
+          (omega (arith, c.loop-i-test.true, c.requires.2)) k.ensures.is c.matches.ensures c.if-matches.true,
     )
 
 pub overflow_mul-n : goal.overflow_mul-n
@@ -61,9 +61,9 @@ overflow_add-at c =
       c.loop-i.invariant.0.small,
       c.requires.2,
       c.loop-i-test.true,
-      c.number_at.ensures.1,
-      c.number_at-c.ensures.1,
-      c.contents_length.ensures.1,
+      c.number_at.ensures.small,
+      c.number_at-c.ensures.small,
+      c.contents_length.ensures.small,
     )
 
 pub loop-i-preserved : goal.loop-i-preserved
@@ -75,10 +75,10 @@ loop-i-preserved c =
     let h = c.loop-i-test.true in
     let l = c.contents_length in (
       reached_next a.l.now a.path.now a.n o.i o.at k.result o.invariant.0 (omega (arith, h, c.requires.2))
-          k.ensures.0 m.result m.ensures.0 l.ensures k.ensures.1 m.ensures.1,
+          k.ensures.is m.result m.ensures.is (l.ensures.is, l.ensures.small) k.ensures.small m.ensures.small,
       omega (arith, h),
       λ z. none_next a.l.now a.path.now a.n o.i o.at k.result o.invariant.0 (omega (arith, h, c.requires.2))
-          k.ensures.0 c.matches.ensures c.if-matches.false
+          k.ensures.is c.matches.ensures c.if-matches.false
           (o.invariant.2 z),
     )
 

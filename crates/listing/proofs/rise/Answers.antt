@@ -1,31 +1,36 @@
--- What is shared does not decide the order, so the loop may begin behind it.
-use mathlib.Core.Path.{sym, ◌∙◌}
-use Rattle.laws.specs.TextSteps.{smaller_end, larger_here, smaller_next, take_more}
-use Rattle.laws.specs.ListingOrder.{smaller_shared}
-use native.Mathlib.Omega.{arith}
-use Rattle.listing.proofs.Partings.{not_up, up_short, up_here}
+-- What is shared does not decide the order: the first bytes that differ do, or else the lengths.
+use Rattle.std.proofs.Common.{◌≡◌, ◌≢◌, ℕ, drop, ◌∙◌, rules, tests}
+use Rattle.std.proofs.lemmas.Iterator.{IsFirst-from_position, YieldsList-from_slice, YieldsList-from_zip}
+use Rattle.std.proofs.lemmas.List.{take_rest}
+use Rattle.std.specs.Slice.Iter.{iter_rest}
+use Rattle.std.specs.Iterator.Adapters.{zip_first, zip_second}
+use Rattle.listing.proofs.Partings.{parted, ended}
 use Rattle.listing.proofs.rise.Goals as goal
 
-pub loop-i-init : goal.loop-i-init
-loop-i-init c = let s = c.shared-i.ensures in (s.left, s.right, s.same, smaller_shared _ _ _ s.same s.left s.right)
+pub returns-in-Some : goal.returns-in-Some
+returns-in-Some c =
+    let p = c.args.p.now in
+    let q = c.args.q.now in
+    let k = c.shared-k.result in
+    let a : iter_rest (zip_first c.zip.result) ≡ drop k p = rw (← take_rest p k) (search rules) in
+    let b : iter_rest (zip_second c.zip.result) ≡ drop k q = rw (← take_rest q k) (search rules) in
+    let pairs = YieldsList-from_zip {s = c.zip.result} (YieldsList-from_slice _ a) (YieldsList-from_slice _ b) in
+    let first =
+    IsFirst-from_position c.position.new.self _ c.position.result (λ (x : ℕ × ℕ). x.0 ≢ x.1) (λ (x : ℕ × ℕ). x.0 ≡ x.1)
+    c.position.ensures.ran pairs (λ x q k. search (rules, tests)) (λ x q k. search (rules, tests)) in
+    let f = rw c.in-Some.is at first in
+    c.then_some.ensures ∙ parted p q k c.shared-k.ensures c.in-Some.i f.0 f.2 f.1
 
-pub returns-then-i-q : goal.returns-then-i-q
-returns-then-i-q c = not_up _ _ (sym c.loop-i.invariant.3 ∙ smaller_end _ _ _ c.if-i-q.true)
-
-pub returns-then-i-p : goal.returns-then-i-p
-returns-then-i-p c = let v = c.loop-i.invariant in up_short _ _ _ v.2 v.0 c.if-i-q.false v.3 c.if-i-p.true
-
-pub returns-then-p-i : goal.returns-then-p-i
-returns-then-p-i c = let v = c.loop-i.invariant in up_here _ _ _ v.2 v.0 c.if-i-q.false v.3 c.if-i-p.false c.if-p-i.true
-
-pub returns-then-q-i : goal.returns-then-q-i
-returns-then-q-i c = not_up _ _ (sym c.loop-i.invariant.3 ∙ larger_here _ _ _ c.if-i-p.false c.if-i-q.false c.if-q-i.true)
-
-pub loop-i-preserved : goal.loop-i-preserved
-loop-i-preserved c =
-    let v = c.loop-i.invariant in (
-      omega arith,
-      omega arith,
-      take_more _ _ _ c.if-i-p.false c.if-i-q.false v.2 (omega arith),
-      sym (smaller_next _ _ _ c.if-i-p.false c.if-i-q.false (omega arith)) ∙ v.3,
-    )
+pub returns-in-None : goal.returns-in-None
+returns-in-None c =
+    let p = c.args.p.now in
+    let q = c.args.q.now in
+    let k = c.shared-k.result in
+    let a : iter_rest (zip_first c.zip.result) ≡ drop k p = rw (← take_rest p k) (search rules) in
+    let b : iter_rest (zip_second c.zip.result) ≡ drop k q = rw (← take_rest q k) (search rules) in
+    let pairs = YieldsList-from_zip {s = c.zip.result} (YieldsList-from_slice _ a) (YieldsList-from_slice _ b) in
+    let first =
+    IsFirst-from_position c.position.new.self _ c.position.result (λ (x : ℕ × ℕ). x.0 ≢ x.1) (λ (x : ℕ × ℕ). x.0 ≡ x.1)
+    c.position.ensures.ran pairs (λ x q k. search (rules, tests)) (λ x q k. search (rules, tests)) in
+    let f = rw c.in-None.is at first in
+    c.then_some-in-None.ensures ∙ ended p q k c.shared-k.ensures f

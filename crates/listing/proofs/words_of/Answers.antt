@@ -5,7 +5,7 @@ use Rattle.listing.proofs.words_of.Goals as goal
 pub returns : goal.returns
 returns c = (
   record {
-    bytes = λ i. omega (arith, c.shared_slice_known-1.given i);
+    bytes = λ i. omega (arith, c.type_inv.q i);
     is_start = c.low_or_zero.ensures;
     is_next = c.low_or_zero-2.ensures;
     first = c.eight_or_zero.ensures;

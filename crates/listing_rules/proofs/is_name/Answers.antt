@@ -1,20 +1,21 @@
-use mathlib.Core.Path.{sym, ◌∙◌}
+-- A component of plain bytes is a name, and so is one without 0 that is UTF-8.
+use Rattle.std.proofs.Common.{arith}
+use Rattle.std.proofs.lemmas.Bool.Decides.{nat_tests}
 use Rattle.laws.specs.ListingNameLaws.{is_name}
-use Rattle.listing_rules.proofs.Names.{name_plain, name_zero, name_utf8}
 use Rattle.listing_rules.proofs.is_name.Goals as goal
-
-pub returns-then-not-is_component : goal.returns-then-not-is_component
-unfolding is_name
-returns-then-not-is_component c = rw (sym c.is_component.ensures ∙ c.if-not-is_component.true)
 
 pub returns-then-plain : goal.returns-then-plain
 unfolding is_name
-returns-then-plain c = sym (name_plain _ (sym c.is_component.ensures ∙ c.if-not-is_component.false) (c.requires c.if-plain.true))
+returns-then-plain c = grind (arith, nat_tests)
 
-pub returns-then-contains : goal.returns-then-contains
+pub returns-then-not-contains : goal.returns-then-not-contains
 unfolding is_name
-returns-then-contains c = sym (name_zero _ (sym c.is_component.ensures ∙ c.if-not-is_component.false) (sym c.contains.ensures ∙ c.if-contains.true))
+returns-then-not-contains c = grind (arith, nat_tests)
 
-pub returns : goal.returns
+pub returns-else-not-contains : goal.returns-else-not-contains
 unfolding is_name
-returns c = c.is_utf8.ensures ∙ sym (name_utf8 _ (sym c.is_component.ensures ∙ c.if-not-is_component.false) (sym c.contains.ensures ∙ c.if-contains.false))
+returns-else-not-contains c = grind (arith, nat_tests)
+
+pub returns-else-is_component : goal.returns-else-is_component
+unfolding is_name
+returns-else-is_component c = grind (arith, nat_tests)

@@ -1,49 +1,28 @@
-use mathlib.Core.Path.{◌≡◌, ◌∙◌, refl, sym, ap}
-use borrow.Author.Tests.{le-leb, lt-leb, eq-eqb, ne_eqb}
-use native.Mathlib.Omega.{arith}
-use Prim.Native.Nat.{◌+◌, ◌*◌}
-use lib.ListN.{length, drop}
-use Rattle.definition.specs.Listing.{number32, entry_count, text_length}
-use Rattle.laws.specs.ListingSteps.{sizes_is}
+-- The sizes, one after another, are the definition's.
+use Rattle.std.proofs.Common.{◌≡◌, ℕ, ◌+◌, ◌*◌, ◌&&◌, ◌==◌, nat_le, List, length, drop, take, refl, ◌∙◌, ap, arith}
+use Rattle.std.proofs.lemmas.Bool.Decides.{nat_tests}
+use Rattle.definition.specs.Listing.{number32, entry_count, text_length, sizes_fit}
+use Rattle.laws.specs.ListingSteps.{lengths_at, sizes_is}
 use Rattle.listing.proofs.Numbers.{number_part}
 use Rattle.listing_rules.proofs.sizes.Goals as goal
 
+fits : (l p : List ℕ) (n t : ℕ) → n ≡ number32 l → p ≡ take 4 (drop 4 l) → t ≡ number32 p
+    → sizes_fit l ≡ (nat_le (length l) 65536 && nat_le 1 n && nat_le n 1024 && length l == 8 + 8 * n + t && lengths_at l 0 == t)
+unfolding entry_count text_length
+fits l p n t e f g =
+    let h : t ≡ number32 (drop 4 l) = g ∙ (ap number32 f ∙ number_part (drop 4 l) 4 refl) in
+    rw (e, h) (sizes_is l refl refl refl refl refl)
+
 pub returns-then-l-gt65536 : goal.returns-then-l-gt65536
-unfolding entry_count text_length
-returns-then-l-gt65536 c = sym (sizes_is c.args.l.now (lt-leb _ _ c.if-l-gt65536.true) refl refl refl refl)
+returns-then-l-gt65536 c =
+    let e = fits _ _ _ _ c.read_number-n.ensures.is c.part.ensures c.read_number-t.ensures.is in
+    grind (arith, nat_tests)
 
-pub returns-then-n-lt1 : goal.returns-then-n-lt1
-unfolding entry_count text_length
-returns-then-n-lt1 c =
-    let l = c.args.l.now in
-    let n : c.read_number-n.result ≡ entry_count l = c.read_number-n.ensures.0 in
-    sym (sizes_is l (le-leb _ _ c.if-l-gt65536.false) (lt-leb 1 (entry_count l) (omega (arith, c.if-n-lt1.true))) refl refl refl)
-
-pub returns-then-n-gt1024 : goal.returns-then-n-gt1024
-unfolding entry_count text_length
-returns-then-n-gt1024 c =
-    let l = c.args.l.now in
-    let n : c.read_number-n.result ≡ entry_count l = c.read_number-n.ensures.0 in
-    sym (sizes_is l (le-leb _ _ c.if-l-gt65536.false) (le-leb 1 (entry_count l) (omega (arith, c.if-n-lt1.false))) (lt-leb (entry_count l) 1024 (omega (arith, c.if-n-gt1024.true))) refl refl)
-
-pub returns-then-l-n : goal.returns-then-l-n
-unfolding entry_count text_length
-returns-then-l-n c =
-    let l = c.args.l.now in
-    let n : c.read_number-n.result ≡ entry_count l = c.read_number-n.ensures.0 in
-    let t : c.read_number-t.result ≡ text_length l = c.read_number-t.ensures.0 ∙ ap number32 c.part.ensures ∙ number_part (drop 4 l) 4 refl in
-    sym (sizes_is l (le-leb _ _ c.if-l-gt65536.false) (le-leb 1 (entry_count l) (omega (arith, c.if-n-lt1.false))) (le-leb (entry_count l) 1024 (omega (arith, c.if-n-gt1024.false)))
-    (ne_eqb (length l) (8 + 8 * entry_count l + text_length l) (λ e. c.if-l-n.true (rw (n, t) e))) refl)
-
-pub lengths-requires : goal.lengths-requires
-unfolding entry_count text_length
-lengths-requires c = (c.read_number-n.ensures.0, omega (arith, c.if-n-gt1024.false), omega (arith, c.if-l-n.false))
+pub lengths-requires-clause-count : goal.lengths-requires-clause-count
+unfolding entry_count
+lengths-requires-clause-count c = c.read_number-n.ensures.is
 
 pub returns : goal.returns
-unfolding entry_count text_length
 returns c =
-    let l = c.args.l.now in
-    let n : c.read_number-n.result ≡ entry_count l = c.read_number-n.ensures.0 in
-    let t : c.read_number-t.result ≡ text_length l = c.read_number-t.ensures.0 ∙ ap number32 c.part.ensures ∙ number_part (drop 4 l) 4 refl in
-    sym (sizes_is l (le-leb _ _ c.if-l-gt65536.false) (le-leb 1 (entry_count l) (omega (arith, c.if-n-lt1.false))) (le-leb (entry_count l) 1024 (omega (arith, c.if-n-gt1024.false)))
-    (eq-eqb (length l) (8 + 8 * entry_count l + text_length l) (omega (arith, c.if-l-n.false))) (rw (c.lengths.ensures, t)))
+    let e = fits _ _ _ _ c.read_number-n.ensures.is c.part.ensures c.read_number-t.ensures.is in
+    grind (arith, nat_tests)

@@ -1,5 +1,6 @@
 -- `lookup::hannuvozh_lookup` meets its contract: it is `lookup` with a number for the case of the answer and with counts of 32
 -- bits, which hold the lengths of the texts (at most 6,157) and the consults (at most the limit).
+use mathlib.Core.Path.{◌∙◌}
 use native.Mathlib.Omega.{arith}
 use Rattle.lookup.proofs.Lengths.{three_short, consults_short, counts_left}
 use Rattle.lookup.proofs.hannuvozh_lookup.Goals as goal
@@ -33,5 +34,5 @@ overflow_cast-counts-4 c = omega (arith, consults_short c.lookup-reply.result _ 
 
 pub returns : goal.returns
 returns c =
-    counts_left c.lookup-reply.result _ _ _ _ _ _ _ c.lookup-reply.ensures c.ending_of-ending.ensures.number
+    counts_left c.lookup-reply.result _ _ _ _ _ _ _ c.lookup-reply.ensures (c.from.ensures ∙ c.number.ensures ∙ c.ending_of-ending.ensures.number)
     c.ending_of-ending.ensures.lengths

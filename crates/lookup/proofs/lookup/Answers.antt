@@ -4,7 +4,7 @@ use Rattle.lookup.proofs.lookup.Goals as goal
 
 pub returns : goal.returns
 returns c =
-    let r = c.resolve-reply in
+    let r = c.resolve_into-reply in
     rw (
       zero_all r.new.work _ c.zero_from.ensures,
       r.auto.work,

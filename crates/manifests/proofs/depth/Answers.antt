@@ -1,3 +1,4 @@
+-- The root has no directory above it, any other path one for each slash.
 use mathlib.Core.Path.{◌∙◌, sym}
 use Rattle.definition.specs.Path.{depth}
 use Rattle.manifests.proofs.depth.Goals as goal
@@ -6,6 +7,6 @@ pub returns-then-equal : goal.returns-then-equal
 unfolding depth
 returns-then-equal c = rw (sym c.equal.ensures ∙ c.if-equal.true)
 
-pub returns : goal.returns
+pub returns-else-equal : goal.returns-else-equal
 unfolding depth
-returns c = rw (sym c.equal.ensures ∙ c.if-equal.false) c.count.ensures
+returns-else-equal c = rw (sym c.equal.ensures ∙ c.if-equal.false) c.count.ensures

@@ -1,38 +1,29 @@
--- The loop's invariant: whatever finishes the search from the directory in hand finishes it from where the loop began.
-use mathlib.Core.Path.{refl, ◌∙◌, ap}
-use lib.ListN.{length}
-use Rattle.definition.specs.Path.{parent}
-use Rattle.manifests.proofs.Climbs.{climbing_start, climbing_more, climbing_none, climbing_found, climbing_stop}
+-- A turn of the climb reads one manifest: the search ends in it, goes on above, or there is no directory left.
+use Rattle.std.proofs.Common.{rules}
+use Rattle.manifests.specs.Meaning.{seek, or_further}
+use Rattle.consults.specs.Tape.{done_bind, done_stop, done_ret}
 use Rattle.manifests.proofs.find_package_json.Goals as goal
 
-pub loop-start-init : goal.loop-start-init
-loop-start-init c = (refl, refl, λ G res. climbing_start _ _ _ _ c.depth-above.ensures)
+pub returns-in_err-contents-clause-done : goal.returns-in_err-contents-clause-done
+unfolding seek
+returns-in_err-contents-clause-done c =
+    λ G. rw c.from_residual.ensures
+    (c.loop-dir.invariant.1 G _ _ (rw c.in-Some.ensures.steps (done_stop _ (c.in_err-contents.ensures.done G))))
 
-pub returns-in-File : goal.returns-in-File
-returns-in-File c =
-    let l = c.loop-start in
-    λ G res. climbing_found _ _ _ _ l.n _ _ _ (l.invariant.2 G res)
-    (rw (c.first-d.ensures, c.in-File.is) at (c.read_manifest-read.ensures G res))
+pub returns-in-Some-2-clause-done : goal.returns-in-Some-2-clause-done
+unfolding seek or_further
+returns-in-Some-2-clause-done c =
+    λ G. c.loop-dir.invariant.1 G _ _ (rw c.in-Some.ensures.steps
+    (done_bind _ (rw c.in-Some-2.is at (c.in_ok-contents.ensures.done G)) done_ret))
 
-pub returns-in-Refused : goal.returns-in-Refused
-returns-in-Refused c =
-    λ G res. climbing_stop _ _ _ _ c.loop-start.n _ _ _ (c.loop-start.invariant.2 G res)
-    (rw (c.first-d.ensures, c.in-Refused.is) at (c.read_manifest-read.ensures G res))
+pub loop-dir-preserved : goal.loop-dir-preserved
+unfolding seek or_further
+loop-dir-preserved c = (
+  search rules,
+  λ G t r rest. c.loop-dir.invariant.1 G t r (rw c.in-Some.ensures.steps
+      (done_bind _ (rw c.in_default.is at (c.in_ok-contents.ensures.done G)) rest)),
+)
 
-pub returns-then-above-eq0 : goal.returns-then-above-eq0
-returns-then-above-eq0 c =
-    let l = c.loop-start in
-    λ G res. climbing_none _ _ _ l.n _ _ (rw c.if-above-eq0.true at (l.invariant.2 G res))
-    (rw (c.first-d.ensures, c.in-Missing.is) at (c.read_manifest-read.ensures G res))
-
-pub loop-start-preserved : goal.loop-start-preserved
-loop-start-preserved c =
-    let l = c.loop-start in
-    let f = c.first-d.ensures in
-    let r = c.read_manifest-read in (
-      r.auto.nums ∙ l.invariant.0,
-      r.auto.text
-          ∙ l.invariant.1,
-      λ G res. climbing_more _ _ _ _ _ l.n _ _ _ (l.invariant.2 G res) c.if-above-eq0.false refl
-          (ap length (c.parent-n.ensures ∙ ap parent f)) (rw (f, c.in-Missing.is) at (r.ensures G res)),
-    )
+pub returns-clause-done : goal.returns-clause-done
+unfolding seek
+returns-clause-done c = λ G. c.loop-dir.invariant.1 G _ _ (rw c.in-None.ensures.steps.0 done_ret)

@@ -1,20 +1,22 @@
--- `manifests::read_manifest` meets its contract, by the laws of `Climbs`.
-use native.Mathlib.Omega.{arith}
-use Rattle.manifests.proofs.Climbs.{done_opened, manifest_long, manifest_fits, ManifestOver}
+-- The manifest's path is the definition's; then the limit's end, or a reading that is noted.
+use Rattle.std.proofs.Common.{◌∙◌, sym, arith}
+use Rattle.definition.specs.Ask.{ret}
+use Rattle.consults.proofs.Steps.{no_reading}
+use Rattle.consults.proofs.Ways.{made_long, made_fits}
+use Rattle.manifests.specs.Meaning.{manifest_in}
+use Rattle.manifests.proofs.Climbs.{manifest_built, done_opened}
 use Rattle.manifests.proofs.read_manifest.Goals as goal
 
-pub returns-then-n-gt2048 : goal.returns-then-n-gt2048
-returns-then-n-gt2048 c = λ G res. manifest_long _ _ _ c.manifest_path-p.ensures _ c.if-n-gt2048.true
+pub returns-in_default-clause-done : goal.returns-in_default-clause-done
+unfolding manifest_in
+returns-in_default-clause-done c = λ G. rw c.refuse.ensures (made_long _ (sym (c.manifest_path-path.ensures ∙ manifest_built _) ∙ c.in_default.ensures))
 
-pub returns-then-m-eq0 : goal.returns-then-m-eq0
-returns-then-m-eq0 c = λ G res. ManifestOver _ _ _ c.manifest_path-p.ensures _ c.if-n-gt2048.false c.if-m-eq0.true
+pub returns-then-tape-eq0-clause-done : goal.returns-then-tape-eq0-clause-done
+unfolding manifest_in
+returns-then-tape-eq0-clause-done c = λ G. made_fits _ (sym (c.manifest_path-path.ensures ∙ manifest_built _) ∙ c.in-Some.ensures) (rw c.refuse-then-tape-eq0.ensures (no_reading c.if-tape-eq0.true _ ret))
 
-pub returns : goal.returns
-returns c =
-    let p = c.first-path.ensures in
-    let f = c.search-found in
-    let l = c.args.l.now in
-    λ G res. rw c.manifest_of.ensures
-    (manifest_fits _ _ _ c.manifest_path-p.ensures c.if-n-gt2048.false
-    (done_opened G l _ f.result _ _ _ (rw p at f.ensures.entry) (c.opened_state.ensures l)
-    (rw p at (c.note.ensures res)) (let h = c.if-m-eq0.false in omega arith)))
+pub returns-clause-done : goal.returns-clause-done
+unfolding manifest_in
+returns-clause-done c =
+    λ G. made_fits _ (sym (c.manifest_path-path.ensures ∙ manifest_built _) ∙ c.in-Some.ensures)
+    (done_opened G _ _ _ _ _ _ _ c.search-found.ensures.entry (c.opened_state.ensures _) c.contents_in.ensures c.note.ensures.value (omega arith))

@@ -1,11 +1,9 @@
--- `modules::in_modules` meets its contract, by the laws of `Modules`.
+-- The package's path is built.
 use Rattle.modules.proofs.Modules.{modules_long, modules_there}
 use Rattle.modules.proofs.in_modules.Goals as goal
 
-pub returns-then-n-gt2048 : goal.returns-then-n-gt2048
-returns-then-n-gt2048 c = rw c.refused.ensures (modules_long _ _ _ _ _ _ _ c.normalize_with-p.ensures c.if-n-gt2048.true)
+pub returns-in_default-clause-done : goal.returns-in_default-clause-done
+returns-in_default-clause-done c = rw c.refuse.ensures (modules_long _ _ _ _ _ c.normalize_with-built.ensures c.in_default.ensures)
 
-pub returns : goal.returns
-returns c =
-    modules_there _ _ _ _ _ _ _ c.normalize_with-p.ensures c.if-n-gt2048.false
-    (rw c.first.ensures at c.in_package.ensures)
+pub returns-clause-done : goal.returns-clause-done
+returns-clause-done c = modules_there _ _ _ _ _ c.normalize_with-built.ensures c.in-Some.ensures c.in_package.ensures.done

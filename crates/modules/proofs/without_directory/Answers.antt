@@ -1,17 +1,23 @@
--- `modules::without_directory` meets its contract, by the laws of `Modules`.
+-- By the definition's cases of a subpath and of a name.
 use mathlib.Core.Path.{sym, ◌∙◌}
+use native.Mathlib.Omega.{arith}
+use borrow.Author.Tests.{eqb-true, eqb-false}
+use Rattle.consults.specs.Meaning.{settings_in}
 use Rattle.modules.proofs.Modules.{subpath_left, unscoped, scoped}
 use Rattle.modules.proofs.without_directory.Goals as goal
 
-pub returns-then-sub-gt0 : goal.returns-then-sub-gt0
-returns-then-sub-gt0 c = λ G spec res. subpath_left G _ _ _ _ _ c.if-sub-gt0.true
+pub returns-then-not-is_empty-clause-done : goal.returns-then-not-is_empty-clause-done
+returns-then-not-is_empty-clause-done c =
+    let e = eqb-false _ _ (sym c.is_empty.ensures ∙ c.if-not-is_empty.true) in
+    subpath_left _ _ _ _ _ (omega arith)
 
-pub returns-then-not-starts_with : goal.returns-then-not-starts_with
-returns-then-not-starts_with c =
-    λ G spec res. unscoped G _ _ _ _ _ c.if-sub-gt0.false (sym c.starts_with.ensures
-    ∙ c.if-not-starts_with.true)
+pub returns-then-not-starts_with-clause-done : goal.returns-then-not-starts_with-clause-done
+returns-then-not-starts_with-clause-done c =
+    let e = eqb-true _ _ (sym c.is_empty.ensures ∙ c.if-not-is_empty.false) in
+    unscoped _ _ _ _ _ (omega arith) (sym c.starts_with.ensures ∙ c.if-not-starts_with.true)
 
-pub returns : goal.returns
-returns c =
-    λ G spec res. scoped G _ _ _ _ c.if-sub-gt0.false (sym c.starts_with.ensures
-    ∙ c.if-not-starts_with.false) (rw c.parent.ensures at (c.is_directory.ensures G res))
+pub returns-clause-done : goal.returns-clause-done
+returns-clause-done c =
+    let e = eqb-true _ _ (sym c.is_empty.ensures ∙ c.if-not-is_empty.false) in
+    scoped _ _ _ _ _ (omega arith) (sym c.starts_with.ensures ∙ c.if-not-starts_with.false)
+    (rw c.parent.ensures at (c.is_directory.ensures.done (settings_in c.args.job)))

@@ -10,4 +10,4 @@ pub returns : goal.returns
 returns c l a b g =
     let s = c.spread in
     let p = c.requires in
-    numbers_done l _ _ _ _ _ a b p.0 g s.auto.nums s.ensures c.zero_from_u32.ensures
+    numbers_done l _ _ _ _ _ a b p.0 g s.auto.nums s.ensures c.zero_from.ensures

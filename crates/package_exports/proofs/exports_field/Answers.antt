@@ -1,28 +1,18 @@
--- The loop's invariant: the exports fields before i are not there.
-use mathlib.Core.Path.{◌∙◌, ap}
-use mathlib.Core.List.{[]}
-use Prim.Native.Nat.{◌<◌}
-use native.Mathlib.Omega.{arith}
-use lib.ListN.{length, drop}
-use Rattle.definition.specs.JsonAt.{get_at}
-use Rattle.definition.specs.Settings.{texts_of}
-use Rattle.files.proofs.Files.{left_texts, none_left}
+-- A name is there, or the next one is looked for.
+use Rattle.std.proofs.Common.{ap, ◌∙◌}
+use Rattle.definition.specs.Manifest.{first_field}
+use Rattle.settings.specs.Meaning.{texts_left}
 use Rattle.package_exports.proofs.Fields.{passed_end, passed_more, passed_here}
 use Rattle.package_exports.proofs.exports_field.Goals as goal
 
-pub returns-in_default : goal.returns-in_default
-returns-in_default c =
-    let i = c.loop-i.i in
-    let more : i < length (texts_of c.args.s.now 4) = omega (arith, c.count-n.ensures, c.loop-i-test.true) in
-    let g = c.get-at.ensures ∙ ap (λ k. get_at k (drop c.args.root c.args.m.now)) c.text.ensures in
-    passed_here c.args.m.now c.args.root _ _ _ _ c.get-at.result (left_texts [] _ _ more) c.loop-i.invariant g c.in_default.in_default-own.keys2
+pub loop-name-init : goal.loop-name-init
+loop-name-init c j h = ap (first_field j) (ap texts_left c.into_iter-name-iterator.ensures.into_iter_gives ∙ c.texts-name-items.ensures)
 
-pub loop-i-preserved : goal.loop-i-preserved
-loop-i-preserved c =
-    let i = c.loop-i.i in
-    let more : i < length (texts_of c.args.s.now 4) = omega (arith, c.count-n.ensures, c.loop-i-test.true) in
-    let g = c.get-at.ensures ∙ ap (λ k. get_at k (drop c.args.root c.args.m.now)) c.text.ensures in
-    passed_more c.args.m.now c.args.root _ _ _ _ c.get-at.result (left_texts [] _ _ more) c.loop-i.invariant g c.in-Nothing.is
+pub returns-in-Some-get : goal.returns-in-Some-get
+returns-in-Some-get c = passed_here c.args.m.now c.args.root _ _ _ _ c.in-Some.ensures.steps c.loop-name.invariant _ (rw c.in-Some-get.is at c.get.ensures)
+
+pub loop-name-preserved : goal.loop-name-preserved
+loop-name-preserved c = passed_more c.args.m.now c.args.root _ _ _ _ c.in-Some.ensures.steps c.loop-name.invariant (rw c.in_default.is at c.get.ensures)
 
 pub returns : goal.returns
-returns c = passed_end c.args.m.now c.args.root _ _ (none_left (texts_of c.args.s.now 4) c.loop-i.i (omega (arith, c.count-n.ensures, c.loop-i-test.false))) c.loop-i.invariant
+returns c = passed_end c.args.m.now c.args.root _ _ c.in-None.ensures.steps.0 c.loop-name.invariant

@@ -1,11 +1,8 @@
-use Prim.Native.Nat.{◌-◌}
-use lib.ListN.{drop}
+-- The exports fields that were passed are not there.
 use Rattle.definition.specs.Settings.{texts_of}
+use Rattle.settings.specs.Meaning.{texts_left}
 use Rattle.package_exports.proofs.Fields.{Passed}
 use Rattle.package_exports.proofs.exports_field.Given as goal
 
-abbrev pub invariant-loop-i : goal.invariant-loop-i
-invariant-loop-i l = Passed l.m l.root (texts_of l.s 4) (drop l.i (texts_of l.s 4))
-
-abbrev pub decreases-loop-i : goal.decreases-loop-i
-decreases-loop-i l = l.n - l.i
+abbrev pub invariant-loop-name : goal.invariant-loop-name
+invariant-loop-name l = Passed l.m l.root (texts_of l.s 4) (texts_left l.name-iterator)

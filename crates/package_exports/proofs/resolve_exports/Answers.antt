@@ -1,21 +1,28 @@
+-- The field gives a path, or it ends the lookup.
 use native.Mathlib.Omega.{arith}
-use Rattle.definition.specs.Settings.{settings_of}
-use Rattle.definition.specs.Called.{seen_by}
+use Rattle.refusal.specs.declared.Refusal.TheVariants.{PathTooLong}
 use Rattle.targets.specs.Contexts.{context_of}
 use Rattle.exports.specs.Chosen.{resolved_of}
+use Rattle.consults.specs.Meaning.{seen_in}
 use Rattle.directory.proofs.Rooms.{was_done, enough, fits}
 use Rattle.package_exports.proofs.Fields.{exports_ended, exports_found}
 use Rattle.package_exports.proofs.resolve_exports.Goals as goal
 
-pub returns-in_default : goal.returns-in_default
-returns-in_default c =
-    let a = c.args in
-    let x = c.package_exports_resolve-r in
-    λ j h. exports_ended _ _ _ _ j (resolved_of a.manifest.now a.dir.now a.subpath.now _ x.result) (x.ensures.result_after j c.requires.0 h) _ c.exports_ending-way.result (was_done (fits 42 2048 _ _ (omega (arith, c.requires.0, x.ensures.work_len_unchanged)) c.requires.1) (rw c.first-target.ensures at (c.exports_ending-way.ensures (seen_by (settings_of a.s.now) a.l.now) a.nums.now a.text.now a.m (context_of a.manifest.now x.result.answer.context)))) c.in_default.in_default-own.keys2
+pub returns-in_err-exports_ending-clause-done : goal.returns-in_err-exports_ending-clause-done
+returns-in_err-exports_ending-clause-done c j h =
+    let p = c.args.package in
+    let x = c.package_exports_resolve-resolved in
+    rw c.from_residual.ensures
+    (exports_ended _ _ _ _ j (resolved_of p.manifest.now p.dir.now c.args.subpath.now _ x.result) (x.ensures.result_after j c.requires.0 h)
+    (was_done (fits PathTooLong 2048 _ _ (omega (arith, c.requires.0, x.ensures.work_len_unchanged)) c.requires.1)
+    (rw c.first-target.ensures at (c.in_err-exports_ending.ensures.done (seen_in c.args.job) (context_of p.manifest.now x.result.answer.context)))))
 
-pub returns : goal.returns
-returns c =
-    let a = c.args in
-    let x = c.package_exports_resolve-r in
+pub returns-clause-done : goal.returns-clause-done
+returns-clause-done c j h =
+    let p = c.args.package in
+    let x = c.package_exports_resolve-resolved in
     let f = c.first-target.ensures in
-    λ j h. exports_found _ _ _ _ j (resolved_of a.manifest.now a.dir.now a.subpath.now _ x.result) (x.ensures.result_after j c.requires.0 h) _ _ (was_done (fits 42 2048 _ _ (omega (arith, c.requires.0, x.ensures.work_len_unchanged)) c.requires.1) (rw f at (c.exports_ending-way.ensures (seen_by (settings_of a.s.now) a.l.now) a.nums.now a.text.now a.m (context_of a.manifest.now x.result.answer.context)))) c.in-Next.is (was_done (enough _ (omega (arith, c.requires.0, x.ensures.work_len_unchanged, c.exports_ending-way.auto.work))) (rw f at c.resolve_in_context.ensures))
+    exports_found _ _ _ _ j (resolved_of p.manifest.now p.dir.now c.args.subpath.now _ x.result) (x.ensures.result_after j c.requires.0 h) _
+    (was_done (fits PathTooLong 2048 _ _ (omega (arith, c.requires.0, x.ensures.work_len_unchanged)) c.requires.1)
+    (rw f at (c.in_ok-exports_ending.ensures.done (seen_in c.args.job) (context_of p.manifest.now x.result.answer.context))))
+    (was_done (enough _ (omega (arith, c.requires.0, x.ensures.work_len_unchanged, c.exports_ending.auto.work))) (rw f at c.resolve_in_context.ensures.done))

@@ -1,22 +1,8 @@
-use mathlib.Core.Path.{sym, ◌∙◌, ap}
-use Prim.Native.Nat.{◌-◌}
-use Rattle.definition.specs.JsonAt.{further, then_at, next_element, element_at}
-use Rattle.package_json.specs.Cursors.{placed}
-use Rattle.package_json.proofs.Walks.{further_none, further_on, further_done}
+-- Where there is no first one, there is none.
+use Rattle.definition.specs.JsonAt.{next_element, element_at}
+use Rattle.package_json.proofs.Walks.{further_nothing}
 use Rattle.package_json.proofs.element.Goals as goal
 
-pub loop-left-init : goal.loop-left-init
+pub returns-in_err-first_element : goal.returns-in_err-first_element
 unfolding element_at
-loop-left-init c = ap (further next_element c.args.i) (sym c.first_element-c.ensures)
-
-pub returns-in-Nothing : goal.returns-in-Nothing
-unfolding element_at
-returns-in-Nothing c = further_none next_element c.loop-left.left ∙ ap (λ x. further next_element c.loop-left.left (placed c.args.m.now x)) (sym c.in-Nothing.is) ∙ sym c.loop-left.invariant
-
-pub loop-left-preserved : goal.loop-left-preserved
-unfolding element_at
-loop-left-preserved c = c.loop-left.invariant ∙ further_on next_element c.loop-left.left (placed c.args.m.now c.loop-left.c) c.loop-left-test.true ∙ ap (λ x. further next_element (c.loop-left.left - 1) (then_at (placed c.args.m.now x) next_element)) c.in-At.is ∙ ap (further next_element (c.loop-left.left - 1)) (sym c.next_element-c.ensures)
-
-pub returns : goal.returns
-unfolding element_at
-returns c = further_done next_element c.loop-left.left (placed c.args.m.now c.loop-left.c) c.loop-left-test.false ∙ sym c.loop-left.invariant
+returns-in_err-first_element c = rw c.from_residual.ensures (further_nothing next_element c.args.i c.in_err-first_element.ensures)

@@ -1,22 +1,39 @@
+-- By one member more at a time; the last value of the name counts.
 use mathlib.Core.Path.{sym, ◌∙◌, ap}
 use mathlib.Core.Option.{none}
+use native.Mathlib.Omega.{arith}
 use Rattle.definition.specs.JsonAt.{find_member, get_at}
 use Rattle.package_json.specs.Cursors.{placed}
-use Rattle.package_json.proofs.Walks.{find_none, find_over, get_on}
+use Rattle.package_json.proofs.Walks.{picks_value, picks_found, find_end, find_over, find_cut, find_more}
 use Rattle.package_json.proofs.get.Goals as goal
+use Rattle.package_json.proofs.get.Goals.{then-name_is, else-name_is}
 
-pub loop-left-init : goal.loop-left-init
-unfolding get_at
-loop-left-init c = ap (find_member 128 c.args.name.now none) (sym c.first_member-c.ensures)
+pub loop-init : goal.loop-init
+loop-init c = record { is = ap (find_member 128 c.args.name.now none) (sym c.first_member-next.ensures) }
 
-pub returns-in-Nothing : goal.returns-in-Nothing
-unfolding get_at
-returns-in-Nothing c = find_none c.loop-left.left c.args.name.now (placed c.args.m.now c.loop-left.found) ∙ ap (λ x. find_member c.loop-left.left c.args.name.now (placed c.args.m.now c.loop-left.found) (placed c.args.m.now x)) (sym c.in-Nothing.is) ∙ sym c.loop-left.invariant
+pub loop-preserved : goal.loop-preserved
+loop-preserved c =
+    find_more c.loop.invariant (ap (placed c.args.m.now) (sym c.in-Some.is)) (omega arith)
+    (elim c.if-name_is.branch [
+      | then-name_is w ↦ picks_value w.if-name_is.ensures (ap (placed c.args.m.now) w.found-is ∙ c.member_value-value.ensures)
+      | else-name_is w ↦ picks_found w.if-name_is.ensures (ap (placed c.args.m.now) w.found-is)
+    ])
+    _ c.in-Some-value.ensures c.next_element-next.ensures (omega arith)
 
-pub loop-left-preserved : goal.loop-left-preserved
+pub returns-after-loop : goal.returns-after-loop
 unfolding get_at
-loop-left-preserved c = get_on _ _ _ _ c.loop-left.found c.member_value-value.result c.next_behind-c.result c.loop-left-test.true c.in-At.is c.loop-left.invariant c.member_value-value.ensures c.name_is-same.ensures c.pick-found.ensures c.next_behind-c.ensures
+returns-after-loop c = find_over c.loop.invariant (omega arith)
 
-pub returns : goal.returns
+pub returns-in_default : goal.returns-in_default
 unfolding get_at
-returns c = find_over c.loop-left.left c.args.name.now (placed c.args.m.now c.loop-left.found) (placed c.args.m.now c.loop-left.c) c.loop-left-test.false ∙ sym c.loop-left.invariant
+returns-in_default c = find_end c.loop.invariant (ap (placed c.args.m.now) (sym c.in_default.is))
+
+pub returns-in_default-value : goal.returns-in_default-value
+unfolding get_at
+returns-in_default-value c =
+    find_cut c.loop.invariant (ap (placed c.args.m.now) (sym c.in-Some.is)) (omega arith)
+    (elim c.if-name_is.branch [
+      | then-name_is w ↦ picks_value w.if-name_is.ensures (ap (placed c.args.m.now) w.found-is ∙ c.member_value-value.ensures)
+      | else-name_is w ↦ picks_found w.if-name_is.ensures (ap (placed c.args.m.now) w.found-is)
+    ])
+    c.in_default-value.ensures

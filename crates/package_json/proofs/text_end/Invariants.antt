@@ -1,12 +1,10 @@
-use mathlib.Core.Path.{◌≡◌}
-use mathlib.Core.Bool.{false}
-use Prim.Native.Nat.{◌-◌, ◌≤◌}
-use lib.ListN.{length, drop}
+-- What is passed by is no quote that closes the string.
+use Rattle.std.proofs.Common.{◌≡◌, ◌-◌, ◌≤◌, false, length, drop}
 use Rattle.definition.specs.JsonAt.{text_end}
 use Rattle.package_json.proofs.text_end.Given as goal
 
-abbrev pub invariant-loop-i : goal.invariant-loop-i
-invariant-loop-i l = (l.at ≤ l.i) × (text_end false (drop l.at l.m) ≡ text_end false (drop l.i l.m))
+abbrev pub invariant-loop-b : goal.invariant-loop-b
+invariant-loop-b l = (l.at ≤ l.i) × (text_end false (drop l.at l.m) ≡ text_end false (drop l.i l.m))
 
-abbrev pub decreases-loop-i : goal.decreases-loop-i
-decreases-loop-i l = length l.m - l.i
+abbrev pub decreases-loop-b : goal.decreases-loop-b
+decreases-loop-b l = length l.m - l.i

@@ -1,6 +1,5 @@
-use mathlib.Core.Path.{sym, ◌∙◌, ap}
-use native.Mathlib.Omega.{arith}
-use lib.ListN.{length}
+-- A subpath that begins with "." is kept, and any other stands behind one.
+use Rattle.std.proofs.Common.{sym, ◌∙◌, ap, arith, length}
 use Rattle.package_name.proofs.Parts.{dotted, undotted, overwrite_front}
 use Rattle.definition.specs.Text.{overwrite}
 use Rattle.package_name.proofs.dot_subpath.Goals as goal

@@ -1,46 +1,34 @@
--- The number of the first condition that the member's name is: the loop has passed by those before it.
-use native.Mathlib.Omega.{arith}
-use mathlib.Core.Path.{sym, ◌∙◌, ap}
-use Prim.Native.Nat.{◌<◌, ◌≤◌}
-use lib.ListN.{length}
-use Rattle.definition.specs.Text.{equal}
+-- The name is "default", or that of a condition of the settings.
+use Rattle.std.proofs.Common.{drop, refl, sym, ◌∙◌, arith}
+use Rattle.definition.specs.JsonAt.{name_is}
 use Rattle.definition.specs.Settings.{texts_of}
 use Rattle.package_target.proofs.Places.{name_equal}
-use Rattle.package_target.proofs.Conditions.{is_default, not_default, place_here, place_on, place_end}
+use Rattle.package_target.proofs.Conditions.{counted, is_default, not_default, place_found, place_none}
 use Rattle.package_target.proofs.condition_at.Goals as goal
 
-pub returns-then-name_is : goal.returns-then-name_is
-returns-then-name_is c =
-    let count = c.condition_count-n in
-    record { settings_len_bound = omega (arith, count.ensures.0, count.ensures.1); by_index = λ k s h. is_default k (texts_of c.args.settings.now 0) (sym (name_equal c.args.m.now _ c.args.at c.name_is.result c.name_is.ensures k s h) ∙ c.if-name_is.true) }
+pub returns-then-name_is-clause-few : goal.returns-then-name_is-clause-few
+returns-then-name_is-clause-few c = omega (arith, counted c.args.settings.now, c.type_inv.settings 0)
 
-pub loop-i-init : goal.loop-i-init
-loop-i-init c = λ k s h. not_default k (texts_of c.args.settings.now 0) (sym (name_equal c.args.m.now _ c.args.at c.name_is.result c.name_is.ensures k s h) ∙ c.if-name_is.false)
+pub returns-then-name_is-clause-by_index : goal.returns-then-name_is-clause-by_index
+returns-then-name_is-clause-by_index c k s h =
+    is_default k _ (sym (name_equal c.args.m.now _ c.args.at c.name_is.result c.name_is.ensures k s h) ∙ c.if-name_is.true)
 
-pub returns-then-name_is-2 : goal.returns-then-name_is-2
-returns-then-name_is-2 c =
-    let start = c.args in
-    let count = c.condition_count-n in
-    let loop = c.loop-i in
-    let texts = texts_of start.settings.now 0 in
-    let few : length texts < 256 = omega (arith, count.ensures.0, count.ensures.1) in
-    let inside : loop.i < length texts = omega (arith, count.ensures.0, c.loop-i-test.true) in
-    record { settings_len_bound = few; by_index = λ k s h. sym (loop.invariant k s h ∙ place_here k texts loop.i inside (ap (equal k) (sym c.text-condition.ensures) ∙ sym (name_equal start.m.now _ start.at c.name_is-in-loop-i.result c.name_is-in-loop-i.ensures k s h) ∙ c.if-name_is-2.true)) }
+pub returns-in_err-setting_at-clause-by_index : goal.returns-in_err-setting_at-clause-by_index
+returns-in_err-setting_at-clause-by_index c k s h =
+    let m = c.args.m.now in
+    let at = c.args.at in
+    let other = not_default k (texts_of c.args.settings.now 0)
+    (sym (name_equal m _ at c.name_is.result c.name_is.ensures k s h) ∙ c.if-name_is.false) in
+    let none = place_none k (λ x. name_is x (drop at m)) (λ x. name_equal m x at _ refl k s h) _
+    c.in_err-setting_at.ensures.first in
+    rw c.from_residual.ensures (omega (arith, other, none))
 
-pub loop-i-preserved : goal.loop-i-preserved
-loop-i-preserved c =
-    let start = c.args in
-    let count = c.condition_count-n in
-    let loop = c.loop-i in
-    let texts = texts_of start.settings.now 0 in
-    let inside : loop.i < length texts = omega (arith, count.ensures.0, c.loop-i-test.true) in
-    λ k s h. loop.invariant k s h ∙ place_on k texts loop.i inside (ap (equal k) (sym c.text-condition.ensures) ∙ sym (name_equal start.m.now _ start.at c.name_is-in-loop-i.result c.name_is-in-loop-i.ensures k s h) ∙ c.if-name_is-2.false)
-
-pub returns : goal.returns
-returns c =
-    let count = c.condition_count-n in
-    let loop = c.loop-i in
-    let texts = texts_of c.args.settings.now 0 in
-    let few : length texts < 256 = omega (arith, count.ensures.0, count.ensures.1) in
-    let over : length texts ≤ loop.i = omega (arith, count.ensures.0, c.loop-i-test.false) in
-    record { settings_len_bound = few; by_index = λ k s h. sym (loop.invariant k s h ∙ place_end k texts loop.i over) }
+pub returns-clause-by_index : goal.returns-clause-by_index
+returns-clause-by_index c k s h =
+    let m = c.args.m.now in
+    let at = c.args.at in
+    let other = not_default k (texts_of c.args.settings.now 0)
+    (sym (name_equal m _ at c.name_is.result c.name_is.ensures k s h) ∙ c.if-name_is.false) in
+    let found = place_found k (λ x. name_is x (drop at m)) (λ x. name_equal m x at _ refl k s h) _ _
+    c.in_ok-setting_at.ensures.first in
+    omega (arith, other, found.0)

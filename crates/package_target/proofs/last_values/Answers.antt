@@ -1,28 +1,31 @@
--- The values so far are those of the members that were passed (`Gathering`).
-use mathlib.Core.Path.{◌∙◌, ap}
-use lib.ListN.{length, length-replicate}
-use Rattle.package_target.proofs.Conditions.{put_size}
-use Rattle.package_target.proofs.Gathering.{gather_begin, gather_end, gather_on, gather_over}
+-- One member more, or none is left.
+use Rattle.std.proofs.Common.{Some, length, sym, ◌∙◌, ap, arith}
+use Rattle.std.proofs.Math.ListN.{set}
+use Rattle.std.proofs.lemmas.List.{set_past}
+use Rattle.package_target.specs.Conditions.{places}
+use Rattle.package_target.proofs.Conditions.{none_written, place_written}
+use Rattle.package_target.proofs.Walks.{walk_begin}
+use Rattle.package_target.proofs.Gathering.{gather_begin, gather_on, gather_end}
 use Rattle.package_target.proofs.last_values.Goals as goal
 
-pub loop-left-init : goal.loop-left-init
-loop-left-init c =
-    let start = c.args in
-    let empty = c.requires in
-    (ap length empty ∙ length-replicate 256 (length start.m.now), λ d ms h. gather_begin start.m.now start.at d _ _ _ ms empty c.first_member-cursor.ensures h)
+pub loop-member-init : goal.loop-member-init
+loop-member-init c d ms h =
+    let start = c.members-member-items.ensures in
+    rw c.into_iter-member-iterator.ensures.into_iter_gives
+    (gather_begin c.args.m.now d _ _ _ ms (none_written _ 256) (walk_begin _ _ d _ ms start.manifest start.first start.left h))
 
-pub returns-in-Nothing : goal.returns-in-Nothing
-returns-in-Nothing c = λ d ms h. gather_end (c.loop-left.invariant.1 d ms h) c.loop-left.invariant.0 c.in-Nothing.is
+pub loop-member-preserved-in-Some-condition_at : goal.loop-member-preserved-in-Some-condition_at
+loop-member-preserved-in-Some-condition_at c d ms h =
+    let end = length c.args.m.now in
+    gather_on (c.loop-member.invariant d ms h) c.in-Some.ensures.steps _
+    (λ k s e inside. place_written end c.loop-member.values _ _ inside
+    ∙ ap (λ i. set (places end c.loop-member.values) i (Some c.in-Some.member.value)) (c.in-Some-condition_at.ensures.by_index k s e))
 
-pub loop-left-preserved : goal.loop-left-preserved
-loop-left-preserved c =
-    let loop = c.loop-left in
-    let value = c.value_at-value in
-    let index = c.condition_at-k in
-    let put = c.put_value in (
-      put_size loop.values put.new.values index.result value.result put.ensures loop.invariant.0,
-      λ d ms h. gather_on (loop.invariant.1 d ms h) c.in-At.is value.result value.ensures index.result index.ensures.by_index _ put.ensures loop.invariant.0 c.next_element-cursor.result c.next_element-cursor.ensures,
-    )
+pub loop-member-preserved : goal.loop-member-preserved
+loop-member-preserved c d ms h =
+    let g = c.loop-member.invariant d ms h in
+    gather_on g c.in-Some.ensures.steps _
+    (λ k s e inside. sym (set_past _ _ _ (omega (arith, g.size, c.in_default.ensures.by_index k s e))))
 
 pub returns : goal.returns
-returns c = λ d ms h. gather_over (c.loop-left.invariant.1 d ms h) c.loop-left.invariant.0 c.loop-left-test.false
+returns c d ms h = gather_end (c.loop-member.invariant d ms h) c.in-None.ensures.steps

@@ -1,14 +1,9 @@
--- A name that is no condition changes nothing; any other takes its condition's value.
-use mathlib.Core.Path.{refl, sym}
-use Rattle.package_target.proofs.Conditions.{passed, took}
+-- The place of the condition is struck off the table.
+use Rattle.std.proofs.Common.{length, sym, rules}
+use Rattle.package_target.proofs.Conditions.{turn_taken}
 use Rattle.package_target.proofs.take_turn.Goals as goal
 
-pub returns-then-k-ge-CONDITIONS : goal.returns-then-k-ge-CONDITIONS
-returns-then-k-ge-CONDITIONS c =
-    let index = c.condition_at-k in
-    record { settings_len_bound = index.ensures.settings_len_bound; by_index = λ k s h. passed (sym (index.ensures.by_index k s h)) c.if-k-ge-CONDITIONS.true refl refl }
-
-pub returns : goal.returns
-returns c =
-    let index = c.condition_at-k in
-    record { settings_len_bound = index.ensures.settings_len_bound; by_index = λ k s h. took (sym (index.ensures.by_index k s h)) c.if-k-ge-CONDITIONS.false refl refl }
+pub returns-clause-by_index : goal.returns-clause-by_index
+returns-clause-by_index c k s h =
+    rw (sym (c.in_ok-k.ensures.by_index k s h), c.then_some.ensures)
+    (turn_taken (length c.args.m.now) c.args.values.now (search rules) c.in_ok-k.k c.in_ok-k.ensures.small)

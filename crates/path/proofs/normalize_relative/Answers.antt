@@ -9,8 +9,8 @@ use Rattle.laws.specs.PathLaws.{limited_fits, limited_long, root_of}
 use Rattle.path.proofs.Parts.{root_of_lem}
 use Rattle.path.proofs.normalize_relative.Goals as goal
 
-pub returns-then-p-gt2048 : goal.returns-then-p-gt2048
-returns-then-p-gt2048 c = c.from.ensures ∙ rw (limited_long _ c.if-p-gt2048.true)
+pub returns-then-p-gt-LIMIT : goal.returns-then-p-gt-LIMIT
+returns-then-p-gt-LIMIT c = c.from.ensures ∙ rw (limited_long _ c.if-p-gt-LIMIT.true)
 
 pub slice_bounds-push_relative-count : goal.slice_bounds-push_relative-count
 slice_bounds-push_relative-count c =

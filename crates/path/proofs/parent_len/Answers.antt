@@ -1,12 +1,10 @@
-use native.Mathlib.Omega.{arith}
-use Rattle.path.proofs.Steps.{parent_nothing, parent_slash, parent_front}
+-- The parent ends at the last slash.
+use Rattle.std.proofs.Common.{arith}
+use Rattle.path.proofs.Steps.{parent_found, parent_nothing}
 use Rattle.path.proofs.parent_len.Goals as goal
 
 pub returns-then-k-p : goal.returns-then-k-p
-returns-then-k-p c = (omega arith, parent_nothing _ _ c.rfind-k.ensures c.if-k-p.true)
+returns-then-k-p c = parent_found _ _ c.rfind-k.ensures c.if-k-p.true _ c.max.ensures
 
-pub returns-then-k-eq0 : goal.returns-then-k-eq0
-returns-then-k-eq0 c = (omega arith, parent_slash _ _ c.rfind-k.ensures c.if-k-p.false c.if-k-eq0.true)
-
-pub returns : goal.returns
-returns c = (omega arith, parent_front _ _ c.rfind-k.ensures c.if-k-p.false c.if-k-eq0.false)
+pub returns-else-k-p : goal.returns-else-k-p
+returns-else-k-p c = (omega arith, parent_nothing _ _ c.rfind-k.ensures c.if-k-p.false)

@@ -1,14 +1,16 @@
--- `questions::consult` meets its contract, by the laws of `Questions`.
-use native.Mathlib.Omega.{arith}
-use mathlib.Core.Path.{◌∙◌, ap}
-use Rattle.definition.specs.Ask.{asked}
-use Rattle.questions.proofs.Questions.{done_asked, not_asked}
+-- The limit's end, and a question asked and noted.
+use Rattle.std.proofs.Common.{arith}
+use Rattle.questions.specs.Meaning.{question}
+use Rattle.consults.proofs.Steps.{no_question}
+use Rattle.questions.proofs.Questions.{done_asked}
 use Rattle.questions.proofs.consult.Goals as goal
 
-pub returns-then-m-eq0 : goal.returns-then-m-eq0
-returns-then-m-eq0 c = λ G res. rw c.refuse.ensures (not_asked _ _ c.if-m-eq0.true)
+pub returns-then-tape-eq0-clause-done : goal.returns-then-tape-eq0-clause-done
+unfolding question
+returns-then-tape-eq0-clause-done c = λ G. rw c.refuse.ensures (no_question c.if-tape-eq0.true _ _)
 
-pub returns : goal.returns
-returns c =
-    λ G res. done_asked G _ _ _ _ _ (let h = c.if-m-eq0.false in omega arith) (c.state_of-state.ensures _
-    ∙ ap asked c.search-found.ensures.entry) (c.note.ensures res)
+pub returns-clause-done : goal.returns-clause-done
+returns-clause-done c =
+    λ G. done_asked G _ _ _ _ _ (omega arith)
+    (rw c.search.ensures.entry at (c.state_of-state.ensures.state c.args.l.now)) (rw c.search.ensures.entry at (c.state_of-state.ensures.number c.args.l.now))
+    c.note.ensures.value

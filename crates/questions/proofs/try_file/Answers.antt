@@ -1,23 +1,23 @@
--- `questions::try_file` meets its contract, by the laws of `consults::Steps` and `Questions`.
+-- A question, and the end where it was answered by a file.
+use Rattle.std.proofs.Common.{refl}
+use Rattle.definition.specs.Walk.{when}
+use Rattle.consults.specs.Tape.{done_bind, done_stop, done_ret}
 use Rattle.consults.proofs.Steps.{ends_found, done_finish}
-use Rattle.questions.proofs.Questions.{done_is_file, file_unknown, try_missing, try_found}
+use Rattle.questions.proofs.Questions.{file_asked, file_state}
 use Rattle.questions.proofs.try_file.Goals as goal
 
-pub returns-in_default : goal.returns-in_default
-returns-in_default c =
-    λ G. file_unknown _ c.consult-asked.result.way c.consult-asked.result.state
-    (c.consult-asked.ensures G _) c.in_default.in_default-own.keys2 G _ _
+pub returns-in_err-state-clause-done : goal.returns-in_err-state-clause-done
+returns-in_err-state-clause-done c =
+    λ G. rw (c.from_residual.ensures, file_asked) (done_stop _ (c.in_err-state.ensures.done G))
 
-pub returns-then-asked-ne2 : goal.returns-then-asked-ne2
-returns-then-asked-ne2 c =
-    λ G. rw c.next.ensures
-    (try_missing G _ _ _ _ _
-    (done_is_file _ c.consult-asked.result.way c.consult-asked.result.state (c.consult-asked.ensures G _)
-    c.in-Next.is) c.if-asked-ne2.true)
-
-pub returns : goal.returns
-returns c =
+pub returns-then-eq-clause-done : goal.returns-then-eq-clause-done
+unfolding when
+returns-then-eq-clause-done c =
     let e = c.finish.ensures in
-    λ G. try_found G _ _ _ _ _
-    (done_is_file _ c.consult-asked.result.way c.consult-asked.result.state (c.consult-asked.ensures G _)
-    c.in-Next.is) c.if-asked-ne2.false (done_finish (ends_found _) _ _ _ e.ending (rw e.texts))
+    λ G. rw file_asked (done_bind _ (c.in_ok-state.ensures.done G)
+    (rw (file_state _ (c.in_ok-state.ensures.not_read _ refl), ← c.if-eq.ensures) (done_finish (ends_found _) _ _ _ e.ending e.texts)))
+
+pub returns-clause-done : goal.returns-clause-done
+unfolding when
+returns-clause-done c =
+    λ G. rw file_asked (done_bind _ (c.in_ok-state.ensures.done G) (rw (file_state _ (c.in_ok-state.ensures.not_read _ refl), ← c.if-eq.ensures) done_ret))

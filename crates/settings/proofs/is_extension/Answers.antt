@@ -1,14 +1,14 @@
-use native.Mathlib.Omega.{arith}
-use lib.ListN.{get_or}
-use borrow.Author.Tests.{le-leb, lt-leb}
+-- The two tests are the law's.
+use Rattle.std.proofs.Common.{arith}
+use Rattle.std.proofs.lemmas.Bool.Decides.{nat_tests}
 use Rattle.definition.specs.Settings.{count_of}
 use Rattle.laws.specs.SettingsLaws.{is_extension}
 use Rattle.settings.proofs.is_extension.Goals as goal
 
-pub returns-then-k-first : goal.returns-then-k-first
+pub returns-then-first-k : goal.returns-then-first-k
 unfolding is_extension count_of
-returns-then-k-first c = simp (lt-leb (get_or c.args.s.now 0 0) c.args.k (omega arith))
+returns-then-first-k c = grind (arith, nat_tests)
 
-pub returns : goal.returns
+pub returns-else-first-k : goal.returns-else-first-k
 unfolding is_extension count_of
-returns c = simp (le-leb (get_or c.args.s.now 0 0) c.args.k (omega arith), c.byte-first.ensures.0, c.byte.ensures.0)
+returns-else-first-k c = grind (arith, nat_tests)

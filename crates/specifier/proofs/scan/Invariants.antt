@@ -1,10 +1,7 @@
-use Prim.Native.Nat.{◌-◌}
-use lib.ListN.{length}
+-- What is left of the body, by the byte before the place.
+use Rattle.std.proofs.Common.{◌-◌, get_or}
 use Rattle.specifier.proofs.Fragment.{Scan}
 use Rattle.specifier.proofs.scan.Given as goal
 
 abbrev pub invariant-loop-i : goal.invariant-loop-i
-invariant-loop-i l = Scan l.s l.prev l.escaped l.i
-
-abbrev pub decreases-loop-i : goal.decreases-loop-i
-decreases-loop-i l = length l.s - l.i
+invariant-loop-i l = Scan l.s (get_or l.s (l.i - 1) 0) l.escaped l.i

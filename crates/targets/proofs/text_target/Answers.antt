@@ -15,7 +15,7 @@ returns-then-parsed c =
 pub returns-then-parsed-2 : goal.returns-then-parsed-2
 returns-then-parsed-2 c =
     λ m q a l i. escaped_path c.args.s.now c.parse-parsed.result c.parse-parsed.ensures m q
-    c.args.c l (λ k. omega (arith, c.shared_slice_known-3-1.given k)) c.if-parsed.false
+    c.args.c l (λ k. omega (arith, c.type_inv.s k)) c.if-parsed.false
     c.with_query_fragment-context.result
     (context_of_lem m c.args.at c.args.s.now i c.parse-parsed.result.query
     c.parse-parsed.result.fragment _ _ _ c.first.ensures c.part-query.ensures c.part-fragment.ensures
@@ -27,7 +27,7 @@ returns-then-parsed-2 c =
 pub returns : goal.returns
 returns c =
     λ m q a l i. plain_path c.args.s.now c.parse-parsed.result c.parse-parsed.ensures m q
-    c.args.c l (λ k. omega (arith, c.shared_slice_known-3-1.given k)) c.if-parsed.false
+    c.args.c l (λ k. omega (arith, c.type_inv.s k)) c.if-parsed.false
     c.with_query_fragment-context.result
     (context_of_lem m c.args.at c.args.s.now i c.parse-parsed.result.query
     c.parse-parsed.result.fragment _ _ _ c.first.ensures c.part-query.ensures c.part-fragment.ensures

@@ -1,12 +1,10 @@
-use mathlib.Core.Path.{sym, ◌∙◌}
-use Rattle.laws.specs.TextSteps.{contains_text_end, contains_text_here, contains_text_not, part_rest}
+-- One of the windows is the text, or none is.
+use Rattle.std.proofs.Common.{rules, eq-eqb, sym, ◌∙◌}
+use Rattle.text.proofs.Words.{occurs_is, occurs_empty}
 use Rattle.text.proofs.contains_text.Goals as goal
 
-pub returns-then-starts_with : goal.returns-then-starts_with
-returns-then-starts_with c = sym (contains_text_here _ _ _ c.loop-i-test.true (sym (rw part_rest at c.starts_with.ensures) ∙ c.if-starts_with.true)) ∙ c.loop-i.invariant
+pub returns-then-t-eq0 : goal.returns-then-t-eq0
+returns-then-t-eq0 c = eq-eqb _ _ c.if-t-eq0.true ∙ sym (occurs_empty _ _ c.if-t-eq0.true)
 
-pub loop-i-preserved : goal.loop-i-preserved
-loop-i-preserved c = sym (contains_text_not _ _ _ c.loop-i-test.true (sym (rw part_rest at c.starts_with.ensures) ∙ c.if-starts_with.false)) ∙ c.loop-i.invariant
-
-pub returns : goal.returns
-returns c = sym (contains_text_end _ _ _ c.loop-i-test.false) ∙ c.loop-i.invariant
+pub returns-else-t-eq0 : goal.returns-else-t-eq0
+returns-else-t-eq0 c = occurs_is c.args.t.now c.args.s.now c.any.result c.if-t-eq0.false (search rules) (search rules)

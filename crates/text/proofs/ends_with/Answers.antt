@@ -1,13 +1,7 @@
-use mathlib.Core.Path.{◌∙◌}
-use borrow.Author.Tests.{le-leb, lt-leb}
-use Rattle.definition.specs.Text.{ends_with}
-use Rattle.laws.specs.TextSteps.{part_rest}
+-- The library's `ends_with` is the definition's.
+use Rattle.std.proofs.Common.{◌∙◌}
+use Rattle.text.proofs.Words.{ends_is}
 use Rattle.text.proofs.ends_with.Goals as goal
 
-pub returns-then-s-suffix : goal.returns-then-s-suffix
-unfolding ends_with
-returns-then-s-suffix c = simp (lt-leb _ _ c.if-s-suffix.true)
-
 pub returns : goal.returns
-unfolding ends_with
-returns c = c.equal.ensures ∙ rw (part_rest, le-leb _ _ c.if-s-suffix.false)
+returns c = c.ends_with.ensures.value ∙ ends_is _ _

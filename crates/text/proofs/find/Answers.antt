@@ -1,14 +1,11 @@
-use mathlib.Core.Path.{ap}
-use native.Mathlib.Omega.{arith}
-use lib.ListN.{length}
-use Rattle.laws.specs.TextSteps.{before_end, before_here, before_not}
+-- The chain gives the first place of the rest that passes its test; where the place is past the end, the rest is empty.
+use Rattle.std.proofs.Common.{rules, ◌-◌, length, take, drop}
+use Rattle.std.proofs.lemmas.List.{take_rest, drop_min}
+use Rattle.text.proofs.Words.{first_is}
 use Rattle.text.proofs.find.Goals as goal
 
-pub returns-then-s-i : goal.returns-then-s-i
-returns-then-s-i c = omega (arith, ap length (before_here c.args.b c.args.s.now _ c.loop-i-test.true c.if-s-i.true))
-
-pub loop-i-preserved : goal.loop-i-preserved
-loop-i-preserved c = omega (arith, before_not c.args.b c.args.s.now _ c.loop-i-test.true c.if-s-i.false)
-
 pub returns : goal.returns
-returns c = omega (arith, ap length (before_end c.args.b c.args.s.now _ c.loop-i-test.false))
+returns c =
+    let s = c.args.s.now in
+    let rest = take (length s - c.min.result) (drop c.min.result s) in
+    rw (c.unwrap_or.ensures, first_is c.args.b rest c.position.result (search rules), take_rest s c.min.result, c.min.ensures, drop_min c.args.at s)

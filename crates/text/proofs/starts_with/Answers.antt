@@ -1,10 +1,7 @@
-use mathlib.Core.Path.{sym, ◌∙◌}
-use native.Mathlib.Nat.{sub-zero}
-use Rattle.laws.specs.TextSteps.{starts_with_short, starts_with_equal}
+-- The library's `starts_with` is the definition's.
+use Rattle.std.proofs.Common.{◌∙◌}
+use Rattle.text.proofs.Words.{starts_is}
 use Rattle.text.proofs.starts_with.Goals as goal
 
-pub returns-then-s-n : goal.returns-then-s-n
-returns-then-s-n c = sym (starts_with_short _ _ c.if-s-n.true)
-
 pub returns : goal.returns
-returns c = rw sub-zero at c.equal.ensures ∙ sym (starts_with_equal _ _ c.if-s-n.false)
+returns c = c.starts_with.ensures.value ∙ starts_is _ _

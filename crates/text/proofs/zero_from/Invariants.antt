@@ -1,11 +1,6 @@
-use mathlib.Core.Path.{◌≡◌}
-use Prim.Native.Nat.{◌-◌}
-use lib.ListN.{length}
-use Rattle.definition.specs.Text.{zero_from}
+-- What the loop has passed is zeros.
+use Rattle.std.proofs.Common.{◌≡◌, take, replicate}
 use Rattle.text.proofs.zero_from.Given as goal
 
-abbrev pub invariant-loop-i : goal.invariant-loop-i
-invariant-loop-i l = (length l.dst ≡ length l.initial.dst) × (zero_from l.i l.dst ≡ zero_from l.at l.initial.dst)
-
-abbrev pub decreases-loop-i : goal.decreases-loop-i
-decreases-loop-i l = length l.initial.dst - l.i
+abbrev pub invariant-loop-x : goal.invariant-loop-x
+invariant-loop-x g l = take l.x-index l.x-items ≡ replicate l.x-index g.T.Zero.zero

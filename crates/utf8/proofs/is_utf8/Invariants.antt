@@ -1,11 +1,8 @@
-use mathlib.Core.Path.{◌≡◌}
-use Prim.Native.Nat.{◌-◌}
-use lib.ListN.{length, drop}
-use Rattle.definition.specs.Text.{due, is_utf8_from, is_utf8}
+-- What is left to read, in the state that was reached, decides as the whole does.
+use Rattle.std.proofs.Common.{◌≡◌, drop}
+use Rattle.definition.specs.Text.{is_utf8_from, is_utf8}
+use Rattle.utf8.specs.Meaning.{due_of}
 use Rattle.utf8.proofs.is_utf8.Given as goal
 
-abbrev pub invariant-loop-i : goal.invariant-loop-i
-invariant-loop-i l = is_utf8_from (drop l.i l.s) (due l.n l.low l.high) ≡ is_utf8 l.s
-
-abbrev pub decreases-loop-i : goal.decreases-loop-i
-decreases-loop-i l = length l.s - l.i
+abbrev pub invariant-loop-b : goal.invariant-loop-b
+invariant-loop-b l = is_utf8_from (drop l.b-index l.s) (due_of l.owed) ≡ is_utf8 l.s

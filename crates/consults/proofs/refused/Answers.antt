@@ -1,4 +1,0 @@
-use Rattle.consults.proofs.refused.Goals as goal
-
-pub returns : goal.returns
-returns c = rw c.refuse.ensures

@@ -1,7 +1,0 @@
-use mathlib.Core.Path.{◌∙◌, ap}
-use Rattle.definition.specs.JsonAt.{first_element, then_at, unless_closed}
-use Rattle.package_json.proofs.first_element.Goals as goal
-
-pub returns : goal.returns
-unfolding first_element
-returns c = c.unless_closed.ensures ∙ ap (λ s. then_at s unless_closed) c.behind.ensures

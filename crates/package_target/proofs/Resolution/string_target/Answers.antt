@@ -1,0 +1,14 @@
+-- The text that was read is the string's.
+use Rattle.std.proofs.Common.{sym, ◌∙◌, ap, rules}
+use Rattle.definition.specs.Specifier.{parse_specifier}
+use Rattle.definition.specs.Exports.{string_target}
+use Rattle.targets.specs.Contexts.{context_of}
+use Rattle.package_target.proofs.Places.{text_short, text_target, string_is}
+use Rattle.package_target.proofs.Resolution.string_target.Goals as goal
+
+pub returns-clause-result_after : goal.returns-clause-result_after
+returns-clause-result_after c q d s a h =
+    let m = c.args.self.manifest.now in
+    let e = text_target h _ _ c.read_text-t.result _ (search rules) c.read_text-t.ensures c.text_at.ensures in
+    c.text_target.ensures m q a (rw e (text_short h)) (string_is h ∙ sym e)
+    ∙ ap (λ t. string_target q (parse_specifier t) t (context_of m c.args.c)) e
