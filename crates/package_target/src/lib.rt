@@ -112,7 +112,8 @@ fn condition_at(m: &[u8], at: usize, settings: &[u8]) -> Option<usize>
 }
 
 // The last value of each condition that the object at a place names, by its place, and the manifest's end where it names none: options would take
-// twice the stack, of which each of up to 16 levels has such a table.
+// twice the stack, of which each of up to 16 levels has such a table. Compiled by itself, so that a level has no more than its own table.
+#[inline(never)]
 fn last_values(m: &[u8], at: usize, settings: &[u8]) -> [usize; CONDITIONS]
     ensures { (d : ℕ) (ms : Members) → Written m.now (suc d) at (obj ms) → LastValues m.now d (texts_of settings.now 0) (places (length m.now) result) ms }
 {
