@@ -97,7 +97,9 @@ fn setting_at(m: &[u8], at: usize, settings: &[u8]) -> Option<usize>
     )
 }
 
-// Which condition the member at a place names: 0 is "default", 1 + i the i-th of the settings.
+// Which condition the member at a place names: 0 is "default", 1 + i the i-th of the settings. It stays out of the functions that call
+// themselves, so that the room for a name with an escape is on the stack once.
+#[inline(never)]
 fn condition_at(m: &[u8], at: usize, settings: &[u8]) -> Option<usize>
     ensures few { length (texts_of settings.now 0) < 256 }
     ensures by_index { (k s : List ℕ) → quoted (drop at m.now) ≡ got k s → IsCondition (condition_of (texts_of settings.now 0) k) result }
@@ -110,7 +112,8 @@ fn condition_at(m: &[u8], at: usize, settings: &[u8]) -> Option<usize>
 }
 
 // The last value of each condition that the object at a place names, by its place, and the manifest's end where it names none: options would take
-// twice the stack, of which each of up to 16 levels has such a table.
+// twice the stack, of which each of up to 16 levels has such a table. Compiled by itself, so that a level has no more than its own table.
+#[inline(never)]
 fn last_values(m: &[u8], at: usize, settings: &[u8]) -> [usize; CONDITIONS]
     ensures { (d : ℕ) (ms : Members) → Written m.now (suc d) at (obj ms) → LastValues m.now d (texts_of settings.now 0) (places (length m.now) result) ms }
 {
@@ -173,7 +176,9 @@ pub struct Resolution<'a> {
 }
 
 impl Resolution<'_> {
-    // The string at a place as a target, decoded into work where it has an escape.
+    // The string at a place as a target, decoded into work where it has an escape. It stays out of the functions that call themselves, so that
+    // the paths that it builds are on the stack once.
+    #[inline(never)]
     fn string_target(self, at: usize, c: Context, buffers: &mut Buffers<'_>) -> Answer
         ensures result_after { (q : Request) (d : ℕ) (s : List ℕ) → Asked q self.entry.wanted → Stands self.entry.manifest.now d at (str s) → answer_of self.entry.manifest.now q buffers.new.path.now result ≡ string_target q (parse_specifier s) s (context_of self.entry.manifest.now c) }
         ensures same { SameBuffers buffers.old buffers.new }
