@@ -1,2 +1,3 @@
+pub mod Roots
 pub mod Routines
 pub mod Refusals

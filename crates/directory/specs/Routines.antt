@@ -1,11 +1,9 @@
 -- What the functions up to LOAD_AS_DIRECTORY give back, and the steps of the definition that one of them does together.
-use Rattle.std.specs.Prelude.{◌≡◌, [], ◌++◌, ◌≤◌, length, drop}
+use Rattle.std.specs.Prelude.{◌≡◌, [], ◌++◌}
 use Rattle.std.proofs.Math.Option.{Option, none, some}
 use Rattle.definition.specs.Text.{Text, overwrite}
 use Rattle.definition.specs.Path.{Built, built, too_long, manifest_of}
-use Rattle.definition.specs.Json.{Json, scalar, Read, got, fault, parse, settled}
-use Rattle.definition.specs.JsonAt.{Told, text_at}
-use Rattle.package_json.specs.Values.{Stands}
+use Rattle.definition.specs.Json.{Json}
 use Rattle.definition.specs.Settings.{Settings}
 use Rattle.definition.specs.Ask.{ret, ◌>>=◌, ◌>>◌}
 use Rattle.definition.specs.Manifest as definition
@@ -22,7 +20,8 @@ use Rattle.consults.specs.declared.Case.TheVariants.{Refused}
 use Rattle.consults.specs.declared.Ending.{Ending}
 use Rattle.consults.specs.Tape.{Tape}
 use Rattle.consults.specs.Meaning.{ended_as, with_result}
-use Rattle.directory.specs.declared.Package.{Package}
+use Rattle.directory.specs.declared.package.Package.{Package}
+use Rattle.directory.specs.Roots.{json_of}
 use Rattle.manifests.specs.Meaning.{Sought}
 
 -- an ending with a case and three texts, which were written to the result text
@@ -41,14 +40,6 @@ judged x = do
   m ← sound (manifest_of x.dir) x.sees
   ret (some (record { dir = x.dir; manifest = m }))
 
--- the value of a manifest
-abbrev pub value_of : Read Json → Json
-value_of (got j r) = settled j
-value_of (fault f) = scalar
-
-abbrev pub json_of : Text → Json
-json_of m = value_of (parse m)
-
 -- a package as a scope, and by its manifest alone
 abbrev pub scope_in : Settings → Package → walk.Scope
 scope_in G p = record { dir = p.dir.now; manifest = manifest_view G (json_of p.manifest.now) }
@@ -64,29 +55,11 @@ abbrev pub own_of : Settings → held.Option Package → Option definition.Manif
 own_of G None = none
 own_of G (Some p) = some (manifest_view G (json_of p.manifest.now))
 
--- its value stands at its root
-abbrev pub Rooted : Package → Type 0
-Rooted p = Stands 16 (drop p.root p.manifest.now) (json_of p.manifest.now)
-
-abbrev pub HeldOne : ControlFlow Ending Package → Type 0
-HeldOne (Break x) = Unit {0}
-HeldOne (Continue p) = Rooted p
-
-abbrev pub Held : ControlFlow Ending (held.Option Package) → Type 0
-Held (Break x) = Unit {0}
-Held (Continue None) = Unit {0}
-Held (Continue (Some p)) = Rooted p
-
--- a directory's own manifest is in it, and its path is within the limit
-abbrev pub Fits : Text → ControlFlow Ending (held.Option Package) → Type 0
-Fits dir (Break x) = Unit {0}
-Fits dir (Continue None) = Unit {0}
-Fits dir (Continue (Some p)) = (p.dir.now ≡ dir) × (length (manifest_of dir) ≤ 2048)
-
--- the text of a member, if there is one: `text_at` there
-abbrev pub told_in : Option Text → (work : Text) → Told
-told_in none w = record { text = none; work = w }
-told_in (some s) w = text_at s w
+-- a directory's own manifest is in it
+abbrev pub Here : Text → ControlFlow Ending (held.Option Package) → Type 0
+Here dir (Break x) = Unit {0}
+Here dir (Continue None) = Unit {0}
+Here dir (Continue (Some p)) = p.dir.now ≡ dir
 
 -- LOAD_AS_DIRECTORY with one main field
 unfoldable pub main_field : Settings → Place → Json → Text → Look (Unit {0})

@@ -2,7 +2,7 @@
 
 #![tactic(auto)]
 
-ghost use Rattle.std.specs.Prelude.{◌≤◌, length};
+ghost use Rattle.std.specs.Prelude.{length};
 ghost use Rattle.definition.specs.Walk.{never, RESOLVE_ESM_MATCH};
 ghost use Rattle.targets.specs.Contexts.{part_text};
 ghost use Rattle.consults.specs.Tape.{Done};
@@ -19,9 +19,8 @@ fn resolve_esm_match(
     spec: &[u8],
     place: Place<'_>,
     tape: &mut Tape<'_>,
-    work: &mut [u8],
+    work: &mut [u8; 1024],
 ) -> ControlFlow<Ending>
-    requires { 1024 ≤ length work.old }
     ensures done { Done (seen_in job.entry) (never (RESOLVE_ESM_MATCH (settings_in job.entry) spec.now (place_of place.entry))) (tape_of tape.old) (tape_of tape.new) (step_of result) }
     ensures same { Same tape.old tape.new }
 {
@@ -38,20 +37,17 @@ fn resolve_with_texts(
     manifest: &[u8],
     context: targets::Context,
     tape: &mut Tape<'_>,
-    work: &mut [u8],
+    work: &mut [u8; 1024],
 ) -> ControlFlow<Ending>
-    requires { 1024 ≤ length work.old }
     ensures done { Done (seen_in job.entry) (never (RESOLVE_ESM_MATCH (settings_in job.entry) spec.now (place path.now (part_text manifest.now context.query) (part_text manifest.now context.fragment)))) (tape_of tape.old) (tape_of tape.new) (step_of result) }
     ensures same { Same tape.old tape.new }
 {
     let mut query = [0u8; 1024];
-    let q = targets::part_text(manifest, context.query, &mut query);
     let mut fragment = [0u8; 1024];
-    let f = targets::part_text(manifest, context.fragment, &mut fragment);
     let place = Place {
         path,
-        query: path::first(&query, q),
-        fragment: path::first(&fragment, f),
+        query: context.query.text(manifest, &mut query),
+        fragment: context.fragment.text(manifest, &mut fragment),
     };
     resolve_esm_match(job, spec, place, tape, work)
 }
@@ -70,9 +66,7 @@ pub fn resolve_in_context(
     ensures done { DoneUnless (seen_in job.entry) (never (RESOLVE_ESM_MATCH (settings_in job.entry) spec.now (place path.now (part_text manifest.now context.query) (part_text manifest.now context.fragment)))) (tape_of tape.old) (room_in (length work.old)) (tape_of tape.new) (step_of result) }
     ensures same { Same tape.old tape.new }
 {
-    if work.len() < 1024 {
-        return ControlFlow::Break(consults::refuse(Refusal::WorkTooShort));
-    }
+    let work = consults::or_refuse(work.first_chunk_mut(), Refusal::WorkTooShort)?;
     if context.query.span.len == 0 && context.fragment.span.len == 0 {
         return resolve_esm_match(job, spec, Place::bare(path), tape, work);
     }

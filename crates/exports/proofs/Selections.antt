@@ -89,7 +89,8 @@ unfolding as_selected
 no_pattern m mk none h = tt
 no_pattern m mk (some x) h = absurd h
 
-best_some : (m mk : List ℕ) (b : Best) (o : Option Entry) → BestOf m mk (Some b) o → (e : Entry) × ((o ≡ some e) × Chosen m mk b e)
+best_some : (m mk : List ℕ) (b : Best) (o : Option Entry) → BestOf m mk (Some b) o
+    → (e : Entry) × ((o ≡ some e) × Chosen m mk b e)
 best_some m mk b none h = absurd h
 best_some m mk b (some x) h = (x, (refl, h))
 
@@ -119,7 +120,8 @@ folder_ends : (mk k p : List ℕ) → pattern_match mk k ≡ some p → contains
 unfolding pattern_match
 folder_ends mk k p h n = go (is_subpath_key k) (ends_with (text "/") k) (rw n at h)
   where
-    go : (a e : Bool) → (if not a then none else if e && starts_with k mk then some (drop (length k) mk) else none) ≡ some p
+    go : (a e : Bool)
+        → (if not a then none else if e && starts_with k mk then some (drop (length k) mk) else none) ≡ some p
         → e ≡ true
     go a true g = refl
     go true false g = cc
@@ -164,6 +166,7 @@ module _ (m mk : List ℕ) (r : Answer Member) where
   one_selected none k h e = absurd (rw e at h)
   one_selected (some s) k h e = (s, (refl, rw e at h))
 
-pub asked_for : {m mk : List ℕ} {k : Member} {s : exports.Selected} → Applies m mk k s → (conditions : List (List ℕ)) (w : Wanted)
+pub asked_for : {m mk : List ℕ} {k : Member} {s : exports.Selected} → Applies m mk k s
+    → (conditions : List (List ℕ)) (w : Wanted)
     → w.form ≡ k.form → w.pattern.now ≡ part_of mk k.matched → Asked (request_for w.url.now conditions s) w
 asked_for {k = k} h conditions w f e = record { directory = refl; formed = rw (f, e) (h.formed w.url.now conditions) }

@@ -20,7 +20,9 @@ use Rattle.exports.specs.declared.Member.{Member}
 use Rattle.exports.specs.declared.Resolved.{Resolved}
 use Rattle.targets.specs.Keys.{rank_of, match_of}
 use Rattle.targets.specs.Contexts.{string_at, context_of}
-use Rattle.targets.specs.Answers.{outcome_in, Formed}
+use Rattle.targets.specs.Answers.{outcome_in, text_in, Formed}
+use Rattle.path.specs.declared.PathBuf.{PathBuf}
+use Rattle.path.specs.Meaning.{path_of}
 
 -- a member's value was looked for
 abbrev pub Finds : List ℕ → ℕ → Option Json → Answer ℕ → Type 0
@@ -37,7 +39,11 @@ abbrev pub joined_keys : KeyMarks → KeyMarks → KeyMarks
 joined_keys a b = record { dot = a.dot || b.dot; other = a.other || b.other; subpath = a.subpath || b.subpath }
 
 abbrev pub keys_of : List Entry → KeyMarks
-keys_of es = record { dot = any_key is_dot_key es; other = any_key (λ k. not (is_dot_key k)) es; subpath = any_key is_subpath_key es }
+keys_of es = record {
+  dot = any_key is_dot_key es;
+  other = any_key (λ k. not (is_dot_key k)) es;
+  subpath = any_key is_subpath_key es;
+}
 
 -- the key of the best entry of a manifest so far, for a match key
 pub record Chosen (m mk : List ℕ) (b : Best) (e : Entry) : Type 0 where
@@ -88,15 +94,18 @@ Selects m mk (Some r) none = ⊥
 Selects m mk (Some r) (some s) = Applies m mk r s
 
 -- how an exports field was resolved
-abbrev pub resolved_of : (m url subpath path : List ℕ) → Resolved → exports.Resolved
+abbrev pub resolved_of : (m url subpath : List ℕ) → PathBuf → Resolved → exports.Resolved
 resolved_of m url subpath path r =
     record {
       context = context_of m r.answer.context;
-      outcome = outcome_in url (key_text m subpath r.key) (match_of subpath r.matched) r.answer.outcome (take r.answer.len path);
+      outcome =
+          outcome_in url (key_text m subpath r.key) (match_of subpath r.matched) r.answer.outcome
+          (text_in (path_of path));
     }
 
 -- a part of the algorithm ended, or it goes on with the context
-abbrev pub went_on : (m url subpath path : List ℕ) → ControlFlow Resolved Context → (exports.Context → exports.Resolved) → exports.Resolved
+abbrev pub went_on : (m url subpath : List ℕ) → PathBuf → ControlFlow Resolved Context
+    → (exports.Context → exports.Resolved) → exports.Resolved
 went_on m url subpath path (Break r) go = resolved_of m url subpath path r
 went_on m url subpath path (Continue c) go = go (context_of m c)
 

@@ -11,7 +11,7 @@ ghost use Rattle.definition.specs.Json.{Json, obj, Members, got, quoted};
 ghost use Rattle.package_json.specs.Values as values;
 ghost use Rattle.definition.specs.Exports as exports;
 ghost use Rattle.definition.specs.Exports.{is_subpath_key, is_dot_key, any_key, Entry, entries, get, Request, better as betterOf, best as bestOf, literal, as_selected, select as selectOf, or_go_on, main_export, main_resolve, PACKAGE_TARGET_RESOLVE, PACKAGE_IMPORTS_EXPORTS_RESOLVE, PACKAGE_EXPORTS_RESOLVE};
-ghost use Rattle.targets.specs.Contexts.{context_of};
+ghost use Rattle.targets.specs.Contexts.{string_at, context_of};
 ghost use Rattle.targets.specs.Answers.{answer_of, Asked};
 ghost use Rattle.package_target.specs.Places.{Stands};
 ghost use Rattle.package_target.specs.Answers.{SameBuffers};
@@ -19,6 +19,7 @@ ghost use Rattle.exports.specs.Chosen.{Finds, a_key, joined_keys, keys_of, BestO
 
 use package_json::Kind;
 use package_target::{Buffers, Resolution};
+use path::PathBuf;
 use std::ops::ControlFlow;
 use targets::{Answer, Context, Form, Outcome, Rank, Span, Wanted};
 
@@ -69,71 +70,12 @@ impl KeyMarks {
     }
 }
 
-// The key at a place.
-fn key_at<'a>(m: &'a [u8], at: usize, work: &'a mut [u8; 1024]) -> &'a [u8]
-    ensures { (k s : List ℕ) → quoted (drop at m.now) ≡ got k s → result.now ≡ k }
-{
-    let t = package_json::read_text(m, at, work);
-    package_json::text_at(m, work, t)
-}
-
-// The keys of the object at a place.
-fn keys_of(m: &[u8], at: usize, work: &mut [u8; 1024]) -> KeyMarks
-    ensures { (ms : Members) → Stands m.now 15 at (obj ms) → result ≡ keys_of (entries ms) }
-{
-    let mut keys = KeyMarks::default();
-    for member in package_target::members(m, at) {
-        let key = key_at(m, member.name, work);
-        keys = keys.or(KeyMarks::of(key));
-    }
-    keys
-}
-
 // The pattern key that comes first of those that match: its place, and the part of the match key that is left over.
 #[derive(Clone, Copy)]
 struct Best {
     key: usize,
     rank: Rank,
     matched: Span,
-}
-
-// The key at a place, where it matches and comes before the best so far.
-fn better(
-    m: &[u8],
-    key: usize,
-    subpath: &[u8],
-    best: Option<Best>,
-    work: &mut [u8; 1024],
-) -> Option<Best>
-    ensures { (o : Option Entry) (k s : List ℕ) (j : Json) → quoted (drop key m.now) ≡ got k s → BestOf m.now subpath.now best o → BestOf m.now subpath.now result (betterOf subpath.now o (record { key = k; target = j })) }
-{
-    let name = key_at(m, key, work);
-    let Some(matched) = targets::pattern_match(subpath, name) else {
-        return best;
-    };
-    let rank = targets::rank_of(name);
-    match best {
-        None => Some(Best { key, rank, matched }),
-        Some(old) if targets::compare(old.rank, rank).is_gt() => Some(Best { key, rank, matched }),
-        Some(_) => best,
-    }
-}
-
-fn best_key(m: &[u8], at: usize, subpath: &[u8], work: &mut [u8; 1024]) -> Option<Best>
-    ensures { (ms : Members) → Stands m.now 15 at (obj ms) → BestOf m.now subpath.now result (bestOf subpath.now none (entries ms)) }
-{
-    let mut best = None;
-    for member in package_target::members(m, at) {
-        best = better(m, member.name, subpath, best, work);
-    }
-    best
-}
-
-// The value that the key at a place has in the object at another: that of its last member.
-fn value_of(m: &[u8], at: usize, key: usize, work: &mut [u8; 1024]) -> Option<usize>
-    ensures { (ms : Members) (k s : List ℕ) → Stands m.now 15 at (obj ms) → quoted (drop key m.now) ≡ got k s → Finds m.now 14 (get k (entries ms)) result }
-{
-    package_json::get(m, at, key_at(m, key, work))
 }
 
 // The key that a failure names.
@@ -143,16 +85,6 @@ pub enum Key {
     Subpath,
     // a key of the manifest, by its place
     At(usize),
-}
-
-// The value of the literal key: a match key with a star is none.
-fn literal_at(m: &[u8], at: usize, match_key: &[u8]) -> Option<usize>
-    ensures { (ms : Members) → Stands m.now 15 at (obj ms) → Finds m.now 14 (literal match_key.now (entries ms)) result }
-{
-    if text::contains(match_key, b'*') {
-        return None;
-    }
-    package_json::get(m, at, match_key)
 }
 
 fn form_of(starred: bool) -> Form
@@ -181,35 +113,117 @@ pub fn matched_part(match_key: &[u8], matched: Option<Span>) -> &[u8]
     }
 }
 
-// The best pattern key's member.
-fn select_pattern(m: &[u8], at: usize, match_key: &[u8], work: &mut [u8; 1024]) -> Option<Member>
-    ensures { (ms : Members) → Stands m.now 15 at (obj ms) → Selects m.now match_key.now result (as_selected match_key.now (bestOf match_key.now none (entries ms))) }
-{
-    let best = best_key(m, at, match_key, work)?;
-    let value = value_of(m, at, best.key, work)?;
-    Some(Member {
-        key: Key::At(best.key),
-        value,
-        matched: Some(best.matched),
-        form: form_of(best.rank.starred),
-    })
+// An exports or an imports map: an object of a manifest, by its place.
+#[derive(Clone, Copy)]
+struct Map<'a> {
+    manifest: &'a [u8],
+    at: usize,
 }
 
-// `select` with a work buffer that is long enough.
-fn select_with(m: &[u8], at: usize, match_key: &[u8], work: &mut [u8; 1024]) -> Option<Member>
-    ensures { (ms : Members) → Stands m.now 15 at (obj ms) → Selects m.now match_key.now result (selectOf match_key.now (entries ms)) }
-{
-    if text::ends_with(match_key, b"/") {
-        return None;
+impl<'a> Map<'a> {
+    // The key at a place.
+    fn key<'k>(self, at: usize, work: &'k mut [u8; 1024]) -> &'k [u8]
+    where
+        'a: 'k,
+        ensures { result.now ≡ string_at self.entry.manifest.now at }
+    {
+        package_json::string_at(self.manifest, at, work)
     }
-    match literal_at(m, at, match_key) {
-        Some(value) => Some(Member {
-            key: Key::Subpath,
+
+    // What its keys begin with.
+    fn keys(self, work: &mut [u8; 1024]) -> KeyMarks
+        ensures { (ms : Members) → Stands self.entry.manifest.now 15 self.entry.at (obj ms) → result ≡ keys_of (entries ms) }
+    {
+        let mut keys = KeyMarks::default();
+        for member in package_json::members(self.manifest, self.at) {
+            keys = keys.or(KeyMarks::of(self.key(member.name, work)));
+        }
+        keys
+    }
+
+    // The key at a place, where it matches and comes before the best so far.
+    fn better(
+        self,
+        key: usize,
+        match_key: &[u8],
+        best: Option<Best>,
+        work: &mut [u8; 1024],
+    ) -> Option<Best>
+        ensures { (o : Option Entry) (k s : List ℕ) (j : Json) → quoted (drop key self.entry.manifest.now) ≡ got k s → BestOf self.entry.manifest.now match_key.now best o → BestOf self.entry.manifest.now match_key.now result (betterOf match_key.now o (record { key = k; target = j })) }
+    {
+        let name = self.key(key, work);
+        let Some(matched) = targets::pattern_match(match_key, name) else {
+            return best;
+        };
+        let rank = targets::rank_of(name);
+        match best {
+            None => Some(Best { key, rank, matched }),
+            Some(old) if targets::compare(old.rank, rank).is_gt() => Some(Best {
+                key,
+                rank,
+                matched,
+            }),
+            Some(_) => best,
+        }
+    }
+
+    fn best(self, match_key: &[u8], work: &mut [u8; 1024]) -> Option<Best>
+        ensures { (ms : Members) → Stands self.entry.manifest.now 15 self.entry.at (obj ms) → BestOf self.entry.manifest.now match_key.now result (bestOf match_key.now none (entries ms)) }
+    {
+        let mut best = None;
+        for member in package_json::members(self.manifest, self.at) {
+            best = self.better(member.name, match_key, best, work);
+        }
+        best
+    }
+
+    // The value of the key at a place: that of its last member.
+    fn value_of(self, key: usize, work: &mut [u8; 1024]) -> Option<usize>
+        ensures { (ms : Members) (k s : List ℕ) → Stands self.entry.manifest.now 15 self.entry.at (obj ms) → quoted (drop key self.entry.manifest.now) ≡ got k s → Finds self.entry.manifest.now 14 (get k (entries ms)) result }
+    {
+        package_json::get(self.manifest, self.at, self.key(key, work))
+    }
+
+    // The value of the literal key: a match key with a star is none.
+    fn literal(self, match_key: &[u8]) -> Option<usize>
+        ensures { (ms : Members) → Stands self.entry.manifest.now 15 self.entry.at (obj ms) → Finds self.entry.manifest.now 14 (literal match_key.now (entries ms)) result }
+    {
+        if text::contains(match_key, b'*') {
+            return None;
+        }
+        package_json::get(self.manifest, self.at, match_key)
+    }
+
+    // The best pattern key's member.
+    fn pattern(self, match_key: &[u8], work: &mut [u8; 1024]) -> Option<Member>
+        ensures { (ms : Members) → Stands self.entry.manifest.now 15 self.entry.at (obj ms) → Selects self.entry.manifest.now match_key.now result (as_selected match_key.now (bestOf match_key.now none (entries ms))) }
+    {
+        let best = self.best(match_key, work)?;
+        let value = self.value_of(best.key, work)?;
+        Some(Member {
+            key: Key::At(best.key),
             value,
-            matched: None,
-            form: Form::Plain,
-        }),
-        None => select_pattern(m, at, match_key, work),
+            matched: Some(best.matched),
+            form: form_of(best.rank.starred),
+        })
+    }
+
+    // The member that applies to a match key.
+    fn select(self, match_key: &[u8], work: &mut [u8; 1024]) -> Option<Member>
+        ensures { (ms : Members) → Stands self.entry.manifest.now 15 self.entry.at (obj ms) → Selects self.entry.manifest.now match_key.now result (selectOf match_key.now (entries ms)) }
+    {
+        if text::ends_with(match_key, b"/") {
+            return None;
+        }
+        match self.literal(match_key) {
+            Some(value) => Some(Member {
+                key: Key::Subpath,
+                value,
+                matched: None,
+                form: Form::Plain,
+            }),
+            None => self.pattern(match_key, work),
+        }
     }
 }
 
@@ -221,7 +235,7 @@ pub fn select(m: &[u8], at: usize, match_key: &[u8], work: &mut [u8]) -> Option<
     ensures value { length work.old < 1024 → result ≡ None }
     ensures work_len_unchanged { length work.new ≡ length work.old }
 {
-    select_with(m, at, match_key, work.first_chunk_mut()?)
+    Map { manifest: m, at }.select(match_key, work.first_chunk_mut()?)
 }
 
 // How an exports field was resolved: an answer, with the key that led to the target and the part of the subpath that matched.
@@ -237,7 +251,7 @@ fn unresolved(c: Context, outcome: Outcome) -> Resolved
     ensures { (result.answer.context ≡ c) × (result.answer.outcome ≡ outcome) × (result.key ≡ Key.Subpath) }
 {
     Resolved {
-        answer: targets::without_path(c, outcome),
+        answer: Answer::new(c, outcome),
         key: Key::Subpath,
         matched: None,
     }
@@ -245,7 +259,7 @@ fn unresolved(c: Context, outcome: Outcome) -> Resolved
 
 // A part of the algorithm: it ends with an answer, or goes on where it found nothing.
 fn unless_nothing(r: Resolved) -> ControlFlow<Resolved, Context>
-    ensures { (m url subpath path : List ℕ) (go : exports.Context → exports.Resolved) → went_on m url subpath path result go ≡ or_go_on (resolved_of m url subpath path r) go }
+    ensures { (m url subpath : List ℕ) (path : PathBuf) (go : exports.Context → exports.Resolved) → went_on m url subpath path result go ≡ or_go_on (resolved_of m url subpath path r) go }
 {
     if package_target::is_nothing(r.answer.outcome) {
         ControlFlow::Continue(r.answer.context)
@@ -291,7 +305,11 @@ impl<'a> Field<'a> {
         ensures result_after { (ms : Members) → Stands self.entry.manifest.now 15 self.entry.at (obj ms) → resolved_of self.entry.manifest.now self.entry.url.now match_key.now buffers.new.path.now result ≡ PACKAGE_IMPORTS_EXPORTS_RESOLVE self.entry.url.now (texts_of self.entry.settings.now 0) match_key.now (entries ms) (context_of self.entry.manifest.now c) }
         ensures same { SameBuffers buffers.old buffers.new }
     {
-        let Some(member) = select_with(self.manifest, self.at, match_key, buffers.work) else {
+        let map = Map {
+            manifest: self.manifest,
+            at: self.at,
+        };
+        let Some(member) = map.select(match_key, buffers.work) else {
             return unresolved(c, Outcome::Nothing);
         };
         let wanted = Wanted {
@@ -347,7 +365,11 @@ impl<'a> Field<'a> {
         ensures result_after { (ms : Members) → Stands self.entry.manifest.now 15 self.entry.at (obj ms) → went_on self.entry.manifest.now self.entry.url.now subpath.now buffers.new.path.now result (not_exported self.entry.url.now subpath.now) ≡ PACKAGE_EXPORTS_RESOLVE self.entry.url.now (texts_of self.entry.settings.now 0) subpath.now (obj ms) fresh }
         ensures same { SameBuffers buffers.old buffers.new }
     {
-        let keys = keys_of(self.manifest, self.at, buffers.work);
+        let map = Map {
+            manifest: self.manifest,
+            at: self.at,
+        };
+        let keys = map.keys(buffers.work);
         if keys.are_mixed() {
             return ControlFlow::Break(unresolved(Context::new(), Outcome::ConfigMixed));
         }
@@ -379,13 +401,13 @@ impl<'a> Field<'a> {
     }
 }
 
-// An exports field for a subpath. The answer's path stands at the start of the path buffer; both lent buffers end with any other bytes, and work
-// with its old length. Where no value stands at the field's place, or work has fewer than 1,024 bytes, the answer is free.
+// An exports field for a subpath. The answer's path, or the target that a failure names, is in the lent path; work ends with its old length and any
+// bytes. Where no value stands at the field's place, or work has fewer than 1,024 bytes, the answer is free.
 pub fn package_exports_resolve<'a>(
     field: Field<'a>,
     subpath: &'a [u8],
     work: &mut [u8],
-    path: &mut [u8; 2048],
+    path: &mut PathBuf,
 ) -> Resolved
     ensures result_after { (j : Json) → 1024 ≤ length work.old → values.Stands 15 (drop field.entry.at field.entry.manifest.now) j → resolved_of field.entry.manifest.now field.entry.url.now subpath.now path.new result ≡ PACKAGE_EXPORTS_RESOLVE field.entry.url.now (settings_of field.entry.settings.now).conditions subpath.now j fresh }
     ensures work_len_unchanged { length work.new ≡ length work.old }

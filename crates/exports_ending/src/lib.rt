@@ -35,73 +35,47 @@ fn manifest_fits(dir: &[u8]) -> bool
     }
 }
 
+// The text of a key; one that stands in the manifest is read into `work`.
+fn key_text<'a>(m: &'a [u8], subpath: &'a [u8], key: Key, work: &'a mut [u8; 1024]) -> &'a [u8]
+    ensures { result.now ≡ key_text m.now subpath.now key }
+{
+    match key {
+        Key::Dot => b".",
+        Key::Subpath => subpath,
+        Key::At(i) => package_json::string_at(m, i, work),
+    }
+}
+
+// The part of the subpath that matched a pattern key, or ".".
+#[tactic(auto, unfolding(definition::specs::Exports::or_dot))]
+fn match_text<'a>(subpath: &'a [u8], matched: Option<Span>) -> &'a [u8]
+    ensures { result.now ≡ or_dot (match_of subpath.now matched) }
+{
+    match matched {
+        Some(part) => part.of(subpath),
+        None => b".",
+    }
+}
+
 // An error that names a target, the key that led to it and the manifest.
-fn invalid_target(
-    m: &[u8],
-    target: &[u8],
-    subpath: &[u8],
-    key: Key,
-    dir: &[u8],
-    tape: &mut Tape<'_>,
-    work: &mut [u8],
-) -> Ending
-    requires { (1024 ≤ length work.old) × (length (manifest_of dir.now) ≤ 2048) }
+fn invalid_target(target: &[u8], key: &[u8], dir: &[u8], tape: &mut Tape<'_>) -> Ending
+    requires { length (manifest_of dir.now) ≤ 2048 }
     ensures same { Same tape.old tape.new }
-    ensures finishes { Finishes InvalidPackageTarget target.now (key_text m.now subpath.now key) (manifest_of dir.now) result (tape_of tape.old) (tape_of tape.new) }
+    ensures finishes { Finishes InvalidPackageTarget target.now key.now (manifest_of dir.now) result (tape_of tape.old) (tape_of tape.new) }
 {
     let path = path::manifest_path(dir);
     let Some(manifest) = path.as_slice() else {
         return consults::refuse(Refusal::PathTooLong);
     };
-    match key {
-        Key::Dot => tape.finish(Case::InvalidPackageTarget, target, b".", manifest),
-        Key::Subpath => tape.finish(Case::InvalidPackageTarget, target, subpath, manifest),
-        Key::At(i) => {
-            let at = package_json::read_text(m, i, work);
-            let name = package_json::text_at(m, work, at);
-            tape.finish(Case::InvalidPackageTarget, target, name, manifest)
-        }
-    }
+    tape.finish(Case::InvalidPackageTarget, target, key, manifest)
 }
 
-// An error that names a key that is not exported, and the package's directory.
-fn key_not_exported(
-    m: &[u8],
-    subpath: &[u8],
-    key: Key,
-    dir: &[u8],
-    tape: &mut Tape<'_>,
-    work: &mut [u8],
-) -> Ending
-    requires { 1024 ≤ length work.old }
+// An error that names what is not exported, and the package's directory.
+fn not_exported(key: &[u8], dir: &[u8], tape: &mut Tape<'_>) -> Ending
     ensures same { Same tape.old tape.new }
-    ensures finishes { Finishes PackagePathNotExported (key_text m.now subpath.now key) dir.now [] result (tape_of tape.old) (tape_of tape.new) }
+    ensures finishes { Finishes PackagePathNotExported key.now dir.now [] result (tape_of tape.old) (tape_of tape.new) }
 {
-    match key {
-        Key::Dot => tape.finish(Case::PackagePathNotExported, b".", dir, b""),
-        Key::Subpath => tape.finish(Case::PackagePathNotExported, subpath, dir, b""),
-        Key::At(i) => {
-            let at = package_json::read_text(m, i, work);
-            let name = package_json::text_at(m, work, at);
-            tape.finish(Case::PackagePathNotExported, name, dir, b"")
-        }
-    }
-}
-
-// The same for the part of the subpath that matched a pattern key, or ".".
-fn match_not_exported(
-    subpath: &[u8],
-    matched: Option<Span>,
-    dir: &[u8],
-    tape: &mut Tape<'_>,
-) -> Ending
-    ensures same { Same tape.old tape.new }
-    ensures finishes { Finishes PackagePathNotExported (or_dot (match_of subpath.now matched)) dir.now [] result (tape_of tape.old) (tape_of tape.new) }
-{
-    match matched {
-        Some(part) => tape.finish(Case::PackagePathNotExported, part.of(subpath), dir, b""),
-        None => tape.finish(Case::PackagePathNotExported, b".", dir, b""),
-    }
+    tape.finish(Case::PackagePathNotExported, key, dir, b"")
 }
 
 // How an exports field that gives no path ends the lookup. It wants 1,024 bytes of work memory, which end as any bytes, and a manifest's path
@@ -118,36 +92,30 @@ pub fn exports_ending(
     ensures same { Same tape.old tape.new }
     ensures done { (L : Listing Sees) (c : Context) → DoneUnless L (given (resolved_to c dir.now subpath.now (outcome_in dir.now (key_text m.now subpath.now resolved.key) (match_of subpath.now resolved.matched) resolved.answer.outcome target.now))) (tape_of tape.old) (room_naming (length work.old) (length (manifest_of dir.now))) (tape_of tape.new) (step_by (found_of c target.now) result) }
 {
-    if work.len() < 1024 {
-        return ControlFlow::Break(consults::refuse(Refusal::WorkTooShort));
-    }
+    let work = consults::or_refuse(work.first_chunk_mut(), Refusal::WorkTooShort)?;
     if !manifest_fits(dir) {
         return ControlFlow::Break(consults::refuse(Refusal::PathTooLong));
     }
-    let key = resolved.key;
-    match resolved.answer.outcome {
-        Outcome::Found => ControlFlow::Continue(()),
-        Outcome::Nothing => {
-            ControlFlow::Break(tape.finish(Case::PackagePathNotExported, subpath, dir, b""))
-        }
-        Outcome::Empty => ControlFlow::Break(tape.finish(Case::Empty, target, b"", b"")),
+    let ending = match resolved.answer.outcome {
+        Outcome::Found => return ControlFlow::Continue(()),
+        Outcome::Nothing => not_exported(subpath, dir, tape),
+        Outcome::Empty => tape.finish(Case::Empty, target, b"", b""),
         Outcome::InvalidTarget => {
-            ControlFlow::Break(invalid_target(m, target, subpath, key, dir, tape, work))
+            let key = key_text(m, subpath, resolved.key, work);
+            invalid_target(target, key, dir, tape)
         }
         Outcome::NotExportedMatch => {
-            ControlFlow::Break(match_not_exported(subpath, resolved.matched, dir, tape))
+            not_exported(match_text(subpath, resolved.matched), dir, tape)
         }
         Outcome::NotExported => {
-            ControlFlow::Break(key_not_exported(m, subpath, key, dir, tape, work))
+            let key = key_text(m, subpath, resolved.key, work);
+            not_exported(key, dir, tape)
         }
-        Outcome::ConfigMixed => {
-            ControlFlow::Break(directory::manifest_ending(Case::InvalidPackageConfig, dir, tape))
+        Outcome::ConfigMixed => directory::manifest_ending(Case::InvalidPackageConfig, dir, tape),
+        Outcome::ConfigDirectory => {
+            directory::manifest_ending(Case::InvalidPackageConfigDirectory, dir, tape)
         }
-        Outcome::ConfigDirectory => ControlFlow::Break(directory::manifest_ending(
-            Case::InvalidPackageConfigDirectory,
-            dir,
-            tape,
-        )),
-        Outcome::OverLong => ControlFlow::Break(consults::refuse(Refusal::PathTooLong)),
-    }
+        Outcome::OverLong => consults::refuse(Refusal::PathTooLong),
+    };
+    ControlFlow::Break(ending)
 }

@@ -22,7 +22,8 @@ same b c = go (eqb b c) refl
     go true e = sym (eq-eqb c b (sym (eqb-true b c e)))
     go false e = sym (ne_eqb c b (λ z. eqb-false b c e (sym z)))
 
-read_word : (w s : List ℕ) → left (word w s) ≡ (if starts_with eqb s w then got tt (drop (length w) s) else fault malformed)
+read_word : (w s : List ℕ)
+    → left (word w s) ≡ (if starts_with eqb s w then got tt (drop (length w) s) else fault malformed)
 unfolding word
 read_word [] s = refl
 read_word (c ∷ w) [] = refl
@@ -39,7 +40,9 @@ module _ (m w text : List ℕ) (at : ℕ) {r : Bool} (s : text ≡ slice_range m
   text_is = s ∙ between_to_end m at (length m) (omega arith)
 
   said : left (word w (drop at m)) ≡ (if r then got tt (drop (length w) (drop at m)) else fault malformed)
-  said = read_word w (drop at m) ∙ ap (λ b. if b then got tt (drop (length w) (drop at m)) else fault malformed) (sym (v ∙ ap (λ t. starts_with eqb t w) text_is))
+  said =
+      read_word w (drop at m)
+      ∙ ap (λ b. if b then got tt (drop (length w) (drop at m)) else fault malformed) (sym (v ∙ ap (λ t. starts_with eqb t w) text_is))
 
   pub word_there : r ≡ true → Reads m (word w (drop at m)) (Ok (at + length w))
   word_there e = record { is = said ∙ rw e (ap (got tt) (drop-drop (length w) at m)) }

@@ -25,7 +25,8 @@ pub data Next : Type 0 where
 
 unfoldable pub after_of : ℕ → List ℕ → Next
 after_of bracket [] = neither malformed
-after_of bracket (b ∷ s) = if eqb b (code ",") then more (skip_space s) else if eqb b bracket then close s else neither malformed
+after_of bracket (b ∷ s) =
+    if eqb b (code ",") then more (skip_space s) else if eqb b bracket then close s else neither malformed
 
 abbrev pub after_at : List ℕ → Result Then Fault → Next
 after_at m (Ok (More i)) = more (drop i m)

@@ -23,7 +23,8 @@ unfolding follows
 follows_below zero v e = not (let z : ◌≡◌ {A = ℕ} 0 1 = cc in omega arith)
 follows_below (suc zero) v e = record { some_left = omega arith; at_most = omega arith; small = ltb-true v 4096 e }
 follows_below (suc (suc zero)) v e = record { some_left = omega arith; at_most = omega arith; small = ltb-true v 256 e }
-follows_below (suc (suc (suc zero))) v e = record { some_left = omega arith; at_most = omega arith; small = ltb-true v 16 e }
+follows_below (suc (suc (suc zero))) v e =
+    record { some_left = omega arith; at_most = omega arith; small = ltb-true v 16 e }
 follows_below (suc (suc (suc (suc zero)))) v e = let z = eqb-true v 0 e in record { some_left = omega arith; at_most = omega arith; small = omega arith }
 follows_below (suc (suc (suc (suc (suc n))))) v e =
     let k = suc (suc (suc (suc (suc n)))) in
@@ -40,7 +41,8 @@ below_follows (suc (suc (suc (suc (suc n))))) v b = not (let z = b.at_most in om
 
 within_high : (h : ℕ) → within 55296 56319 h ≡ true → High h
 unfolding within
-within_high h e = by_test (leb 55296 h) (λ l. by_test (leb h 56319) (λ r. record { low = leb-true 55296 h l; high = leb-true h 56319 r }) (λ r. not (no (rw (l, r) at e)))) (λ l. not (no (rw l at e)))
+within_high h e =
+    by_test (leb 55296 h) (λ l. by_test (leb h 56319) (λ r. record { low = leb-true 55296 h l; high = leb-true h 56319 r }) (λ r. not (no (rw (l, r) at e)))) (λ l. not (no (rw l at e)))
   where
     no : ◌≡◌ {A = Bool} false true → ⊥
     no z = let w : ◌≡◌ {A = ℕ} 0 1 = cc in omega arith
@@ -56,7 +58,8 @@ fits_good Escape e = tt
 fits_good (Hex n v) e = follows_below n v e
 fits_good (SecondEscape h) e = within_high h e
 fits_good (SecondU h) e = within_high h e
-fits_good (SecondHex h n v) e = by_test (within 55296 56319 h) (λ l. (within_high h l, follows_below n v (rw l at e))) (λ l. not (let z : ◌≡◌ {A = Bool} false true = rw l at e in let w : ◌≡◌ {A = ℕ} 0 1 = cc in omega arith))
+fits_good (SecondHex h n v) e =
+    by_test (within 55296 56319 h) (λ l. (within_high h l, follows_below n v (rw l at e))) (λ l. not (let z : ◌≡◌ {A = Bool} false true = rw l at e in let w : ◌≡◌ {A = ℕ} 0 1 = cc in omega arith))
 
 good_fits : (p : Place) → Good p → fits p ≡ true
 good_fits Between g = refl
@@ -67,6 +70,7 @@ good_fits (SecondEscape h) g = high_within h g
 good_fits (SecondU h) g = high_within h g
 good_fits (SecondHex h n v) g = rw (high_within h g.0) (below_follows n v g.1)
 
-pub advanced_good : (p : Place) (b : ℕ) {r : Option Step} → Good p → Steps (advanced p b) r → Steps (step (place_of p) b) r
+pub advanced_good : (p : Place) (b : ℕ) {r : Option Step} → Good p → Steps (advanced p b) r
+    → Steps (step (place_of p) b) r
 unfolding advanced
 advanced_good p b g e = rw (good_fits p g) at e

@@ -59,7 +59,8 @@ Good (SecondHex h n v) = High h × Below n v
 
 -- the same of a place, by tests
 unfoldable pub follows : ℕ → ℕ → Bool
-follows n v = if eqb n 1 then ltb v 4096 else if eqb n 2 then ltb v 256 else if eqb n 3 then ltb v 16 else if eqb n 4 then eqb v 0 else false
+follows n v =
+    if eqb n 1 then ltb v 4096 else if eqb n 2 then ltb v 256 else if eqb n 3 then ltb v 16 else if eqb n 4 then eqb v 0 else false
 
 abbrev pub fits : Place → Bool
 fits Between = true

@@ -1,4 +1,5 @@
-// The automaton that reads the bytes of a string of RFC 8259 behind its opening quote, one by one: UTF-8 sequences, escapes, surrogate pairs.
+// The automaton that reads the bytes of a string of RFC 8259 behind its opening quote, one by one: UTF-8 sequences,
+// escapes, surrogate pairs.
 
 // The proofs look into the definitions that are named here.
 #![tactic(auto, using(std::proofs::lemmas::Bool::Decides::nat_tests, crate::proofs::Steps::fits_good), unfolding(definition::specs::Json::plain_byte, definition::specs::Json::sequence_byte, definition::specs::Json::escape_byte, definition::specs::Json::unit, definition::specs::Json::pair, definition::specs::Json::hex_byte, definition::specs::Json::second_hex_byte, definition::specs::Json::step, definition::specs::Text::within, definition::specs::Text::is_digit, definition::specs::Text::hex_digit, crate::specs::Automaton::lead_byte, crate::specs::Automaton::follows, crate::specs::Automaton::advanced))]
@@ -71,19 +72,17 @@ fn sequence_byte(due: u8, low: u8, high: u8, b: u8) -> Option<Step>
     requires { 0 < due }
     ensures { Steps (stepBy (sequence due low high) b) result }
 {
-    if b < low || b > high {
-        return None;
-    }
-    let place = if due == 1 {
-        Place::Between
-    } else {
-        Place::Sequence {
+    let place = match due {
+        1 => Place::Between,
+        _ => Place::Sequence {
             due: due - 1,
             low: 128,
             high: 191,
-        }
+        },
     };
-    Some(Step::Gives(Some(Out::Byte(b)), place))
+    (low..=high)
+        .contains(&b)
+        .then_some(Step::Gives(Some(Out::Byte(b)), place))
 }
 
 // The byte behind a backslash.
@@ -148,16 +147,16 @@ fn hex_byte(due: u8, value: u32, b: u8) -> Option<Step>
     ensures { Steps (hex_byte due value (hex_digit b)) result }
 {
     let value = with_digit(value, b)?;
-    if due == 1 {
-        return unit(value);
+    match due {
+        1 => unit(value),
+        _ => Some(Step::Gives(
+            None,
+            Place::Hex {
+                due: due - 1,
+                value,
+            },
+        )),
     }
-    Some(Step::Gives(
-        None,
-        Place::Hex {
-            due: due - 1,
-            value,
-        },
-    ))
 }
 
 fn second_hex_byte(high: u32, due: u8, value: u32, b: u8) -> Option<Step>
@@ -165,17 +164,17 @@ fn second_hex_byte(high: u32, due: u8, value: u32, b: u8) -> Option<Step>
     ensures { Steps (second_hex_byte high due value (hex_digit b)) result }
 {
     let value = with_digit(value, b)?;
-    if due == 1 {
-        return pair(high, value);
+    match due {
+        1 => pair(high, value),
+        _ => Some(Step::Gives(
+            None,
+            Place::SecondHex {
+                high,
+                due: due - 1,
+                value,
+            },
+        )),
     }
-    Some(Step::Gives(
-        None,
-        Place::SecondHex {
-            high,
-            due: due - 1,
-            value,
-        },
-    ))
 }
 
 // The place behind the one byte that fits here.
@@ -183,11 +182,7 @@ fn only(b: u8, wanted: u8, place: Place) -> Option<Step>
     requires { Good place }
     ensures { Steps (if b == wanted then gives [] (place_of place) else bad) result }
 {
-    if b == wanted {
-        Some(Step::Gives(None, place))
-    } else {
-        None
-    }
+    (b == wanted).then_some(Step::Gives(None, place))
 }
 
 // What a byte does at a place that a string can lead to.

@@ -29,7 +29,8 @@ use Rattle.json_string.proofs.Rules.{here, past}
 pub put_none : (w : List ℕ) (n : ℕ) → n ≤ 1024 → Stands w w n [] n
 put_none w n h = record { count = omega arith; room = h; bytes = sym (append-nil _); kept = refl }
 
-pub put_bytes : (w out now : List ℕ) (n k : ℕ) → k ≡ n + length out → k ≤ 1024 → 1024 ≤ length w → now ≡ out → Stands w (put_mid n (k - n) w now) n out k
+pub put_bytes : (w out now : List ℕ) (n k : ℕ) → k ≡ n + length out → k ≤ 1024 → 1024 ≤ length w → now ≡ out
+    → Stands w (put_mid n (k - n) w now) n out k
 put_bytes w out now n k c h l e =
     let z : k ≡ n + length now = c ∙ ap (λ x. n + length x) (sym e) in
     record {
@@ -48,7 +49,8 @@ pub record Going (m : List ℕ) (at : ℕ) (w₀ w : List ℕ) (p : Place) (i n 
   pub room : n ≤ 1024
   pub good : Good p
   pub kept : drop n w ≡ drop n w₀
-  pub rest : string 1024 between (drop at m) ≡ and_then (string (1024 - n) (place_of p) (drop i m)) (λ t r. got (take n w ++ t) r)
+  pub rest : string 1024 between (drop at m)
+      ≡ and_then (string (1024 - n) (place_of p) (drop i m)) (λ t r. got (take n w ++ t) r)
 
 pub begin : (m : List ℕ) (at : ℕ) (w : List ℕ) → Going m at w w Place.Between at 0
 begin m at w = record { room = omega arith; good = tt; kept = refl; rest = go (string 1024 between (drop at m)) }
@@ -76,7 +78,8 @@ module _ {m : List ℕ} {at : ℕ} {w₀ w : List ℕ} {p : Place} {i n : ℕ} (
     unfolding go_on
     on_bad a = turn l a
 
-    pub on_close : Steps (advanced p (get_or m i 0)) (Some Close) → string 1024 between (drop at m) ≡ got (take n w) (drop (i + 1) m)
+    pub on_close : Steps (advanced p (get_or m i 0)) (Some Close)
+        → string 1024 between (drop at m) ≡ got (take n w) (drop (i + 1) m)
     unfolding go_on
     on_close a = turn l a ∙ rw (append-nil (take n w))
 
@@ -90,7 +93,9 @@ module _ {m : List ℕ} {at : ℕ} {w₀ w : List ℕ} {p : Place} {i n : ℕ} (
       on_gives {w'} {k} s = record {
         room = s.room;
         good = (e l a).good;
-        kept = s.kept ∙ rw s.count (sym (drop-drop (length (out_of o)) n w) ∙ ap (drop (length (out_of o))) g.kept ∙ drop-drop (length (out_of o)) n w₀);
+        kept =
+            s.kept
+            ∙ rw s.count (sym (drop-drop (length (out_of o)) n w) ∙ ap (drop (length (out_of o))) g.kept ∙ drop-drop (length (out_of o)) n w₀);
         rest =
             turn l a
             ∙ rw (le-leb (length (out_of o)) (1024 - n) (let z = s.count in let y = s.room in omega arith))
@@ -100,7 +105,8 @@ module _ {m : List ℕ} {at : ℕ} {w₀ w : List ℕ} {p : Place} {i n : ℕ} (
           left_over : 1024 - n - length (out_of o) ≡ 1024 - k
           left_over = let z = s.count in let y = s.room in omega arith
 
-          go : (x : Read (List ℕ)) → and_then (and_then x (λ t r. got (out_of o ++ t) r)) (λ t r. got (take n w ++ t) r) ≡ and_then x (λ t r. got (take k w' ++ t) r)
+          go : (x : Read (List ℕ))
+              → and_then (and_then x (λ t r. got (out_of o ++ t) r)) (λ t r. got (take n w ++ t) r) ≡ and_then x (λ t r. got (take k w' ++ t) r)
           go (got t r) = rw (s.bytes, append_assoc)
           go (fault f) = refl
 
@@ -114,10 +120,12 @@ module _ {m w₀ w : List ℕ} {x : Read (List ℕ)} where
   pub gave : {t : Decoded} → Decodes m w₀ w x (Ok t) → Gave m w₀ w x t
   gave d = record { text = d.is; room = d.kept.0; kept = d.kept.1 }
 
-  pub gave_some : (r : Result Decoded code.Fault) {o : Option Decoded} {t : Decoded} → Decodes m w₀ w x r → o ≡ result_ok r → o ≡ Some t → Gave m w₀ w x t
+  pub gave_some : (r : Result Decoded code.Fault) {o : Option Decoded} {t : Decoded} → Decodes m w₀ w x r
+      → o ≡ result_ok r → o ≡ Some t → Gave m w₀ w x t
   gave_some (Ok u) {o} {t} d e q = let z : u ≡ t = cc in gave (rw z at d)
   gave_some (Err f) d e q = absurd (let z : ◌≡◌ {A = ℕ} 0 1 = cc in omega arith)
 
-  pub gave_none : (r : Result Decoded code.Fault) {o : Option Decoded} → Decodes m w₀ w x r → o ≡ result_ok r → o ≡ None → (f : json.Fault) × (x ≡ fault f)
+  pub gave_none : (r : Result Decoded code.Fault) {o : Option Decoded} → Decodes m w₀ w x r → o ≡ result_ok r → o ≡ None
+      → (f : json.Fault) × (x ≡ fault f)
   gave_none (Ok u) d e q = absurd (let z : ◌≡◌ {A = ℕ} 0 1 = cc in omega arith)
   gave_none (Err f) d e q = (fault_of f, d.is)

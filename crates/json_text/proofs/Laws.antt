@@ -25,7 +25,8 @@ module _ {A B : Type 0} {m : List ℕ} {x : Read A} (k : A → List ℕ → Read
       go (got a s) h = cc
       go (fault g) h = h
 
-  pub then_end : {i : ℕ} {t : Result ℕ Fault} → Reads m x (Ok i) → ((a : A) → Reads m (k a (drop i m)) t) → Reads m (and_then x k) t
+  pub then_end : {i : ℕ} {t : Result ℕ Fault} → Reads m x (Ok i) → ((a : A) → Reads m (k a (drop i m)) t)
+      → Reads m (and_then x k) t
   then_end {i} {t} e g = record { is = go x e.is }
     where
       go : (x : Read A) → left x ≡ got tt (drop i m) → left (and_then x k) ≡ scanned m t
@@ -50,11 +51,13 @@ module _ {A : Type 0} {m : List ℕ} {x : Read A} where
 
 -- the same where only the end was asked for
 module _ {A : Type 0} {m : List ℕ} {x : Read A} where
-  pub read_some : (r : Result ℕ Fault) {o : Option ℕ} {i : ℕ} → Reads m x r → o ≡ result_ok r → o ≡ Some i → (a : A) × (x ≡ got a (drop i m))
+  pub read_some : (r : Result ℕ Fault) {o : Option ℕ} {i : ℕ} → Reads m x r → o ≡ result_ok r → o ≡ Some i
+      → (a : A) × (x ≡ got a (drop i m))
   read_some (Ok j) {o} {i} e d q = let z : j ≡ i = cc in was_end (rw z at e)
   read_some (Err f) e d q = absurd (let z : ◌≡◌ {A = ℕ} 0 1 = cc in omega arith)
 
-  pub read_none : (r : Result ℕ Fault) {o : Option ℕ} → Reads m x r → o ≡ result_ok r → o ≡ None → (f : json.Fault) × (x ≡ fault f)
+  pub read_none : (r : Result ℕ Fault) {o : Option ℕ} → Reads m x r → o ≡ result_ok r → o ≡ None
+      → (f : json.Fault) × (x ≡ fault f)
   read_none (Ok j) e d q = absurd (let z : ◌≡◌ {A = ℕ} 0 1 = cc in omega arith)
   read_none (Err f) e d q = (fault_of f, was_fault e)
 
@@ -62,5 +65,6 @@ pub left_map : {A B : Type 0} (f : A → B) (x : Read A) → left (and_then x (�
 left_map f (got a s) = refl
 left_map f (fault n) = refl
 
-pub reads_map : {A B : Type 0} {m : List ℕ} {x : Read A} {r : Result ℕ Fault} (f : A → B) → Reads m x r → Reads m (and_then x (λ a t. got (f a) t)) r
+pub reads_map : {A B : Type 0} {m : List ℕ} {x : Read A} {r : Result ℕ Fault} (f : A → B) → Reads m x r
+    → Reads m (and_then x (λ a t. got (f a) t)) r
 reads_map {A} {B} {m} {x} {r} f e = record { is = left_map f x ∙ e.is }

@@ -33,20 +33,18 @@ unfolding plain
 plain_len [] = refl
 plain_len (b ∷ s) = go (eqb b 34 || eqb b 92) (plain_len s)
   where
-    go : (x : Bool) → prefix_len (λ b. not (eqb b 34 || eqb b 92)) s ≡ length (plain s) → cond (not x) (1 + prefix_len (λ b. not (eqb b 34 || eqb b 92)) s) 0 ≡ length (if x then [] else b ∷ plain s)
+    go : (x : Bool) → prefix_len (λ b. not (eqb b 34 || eqb b 92)) s ≡ length (plain s)
+        → cond (not x) (1 + prefix_len (λ b. not (eqb b 34 || eqb b 92)) s) 0 ≡ length (if x then [] else b ∷ plain s)
     go true h = refl
     go false h = omega (arith, h)
-
-pub plain_none : (m : List ℕ) (from : ℕ) → drop from m ≡ [] → from ≡ from + length (plain (drop from m))
-unfolding plain
-plain_none m from l = rw l (omega arith)
 
 pub plain_prefix : (s : List ℕ) → take (length (plain s)) s ≡ plain s
 unfolding plain
 plain_prefix [] = refl
 plain_prefix (b ∷ s) = go (eqb b 34 || eqb b 92) (plain_prefix s)
   where
-    go : (p : Bool) → take (length (plain s)) s ≡ plain s → take (length (if p then [] else b ∷ plain s)) (b ∷ s) ≡ (if p then [] else b ∷ plain s)
+    go : (p : Bool) → take (length (plain s)) s ≡ plain s
+        → take (length (if p then [] else b ∷ plain s)) (b ∷ s) ≡ (if p then [] else b ∷ plain s)
     go true h = refl
     go false h = ap (λ t. b ∷ t) h
 
@@ -86,11 +84,14 @@ does p free b q a =
 does p (inner n lo hi h) b q a = does_if b (within lo hi b) (does_sequence n b) wrong
 
 -- a string was read from a byte on that gives decoded bytes
-took : (room : ℕ) (q : json.Place) (s out t r : List ℕ) → go_on (gives out q) room (λ r q. string r q s) s ≡ got t r → (u : List ℕ) × ((string (room - length out) q s ≡ got u r) × (t ≡ out ++ u))
+took : (room : ℕ) (q : json.Place) (s out t r : List ℕ) → go_on (gives out q) room (λ r q. string r q s) s ≡ got t r
+    → (u : List ℕ) × ((string (room - length out) q s ≡ got u r) × (t ≡ out ++ u))
 unfolding go_on
 took room q s out t r h = go (leb (length out) room) h
   where
-    go : (b : Bool) → (if b then and_then (string (room - length out) q s) (λ t r. got (out ++ t) r) else fault beyond) ≡ got t r → (u : List ℕ) × ((string (room - length out) q s ≡ got u r) × (t ≡ out ++ u))
+    go : (b : Bool)
+        → (if b then and_then (string (room - length out) q s) (λ t r. got (out ++ t) r) else fault beyond) ≡ got t r
+        → (u : List ℕ) × ((string (room - length out) q s ≡ got u r) × (t ≡ out ++ u))
     go true h = let k = and_then_both (string (room - length out) q s) (λ t r. got (out ++ t) r) t r h in (k.value, (k.first ∙ (let z : k.rest ≡ r = cc k.second in ap (λ x. got k.value x) z), cc k.second))
     go false h = none (let z : ◌≡◌ {A = ℕ} 0 1 = cc in omega arith)
 
@@ -99,25 +100,30 @@ unfolding go_on
 unread room s t r h = let z : ◌≡◌ {A = ℕ} 0 1 = cc in omega arith
 
 -- a plain byte of a string, and the rest of it
-calm_next : (b room : ℕ) (s t r : List ℕ) (p : json.Place) → Calm p → (b ≡ 34 → ⊥) → (b ≡ 92 → ⊥) → go_on (step p b) room (λ r q. string r q s) s ≡ got t r
+calm_next : (b room : ℕ) (s t r : List ℕ) (p : json.Place) → Calm p → (b ≡ 34 → ⊥) → (b ≡ 92 → ⊥)
+    → go_on (step p b) room (λ r q. string r q s) s ≡ got t r
     → (q : json.Place) × (Calm q × ((u : List ℕ) × ((string (room - 1) q s ≡ got u r) × (t ≡ b ∷ u))))
 calm_next b room s t r p c n a h = go (step p b) (does p c b n a) h
   where
-    go : (x : json.Step) → Does b x → go_on x room (λ r q. string r q s) s ≡ got t r → (q : json.Place) × (Calm q × ((u : List ℕ) × ((string (room - 1) q s ≡ got u r) × (t ≡ b ∷ u))))
+    go : (x : json.Step) → Does b x → go_on x room (λ r q. string r q s) s ≡ got t r
+        → (q : json.Place) × (Calm q × ((u : List ℕ) × ((string (room - 1) q s ≡ got u r) × (t ≡ b ∷ u))))
     go x wrong h = none (unread room s t r h)
     go x (itself {p = q} d) h = (q, (d, took room q s (b ∷ []) t r h))
 
 -- the closing quote
-ends : (p : json.Place) → Calm p → (room : ℕ) (s t r : List ℕ) → go_on (step p 34) room (λ r q. string r q s) s ≡ got t r → t ≡ []
+ends : (p : json.Place) → Calm p → (room : ℕ) (s t r : List ℕ)
+    → go_on (step p 34) room (λ r q. string r q s) s ≡ got t r → t ≡ []
 unfolding go_on step plain_byte within
 ends p free room s t r h = cc
 ends p (inner n lo hi l) room s t r h = let z = rw (lt-leb lo 34 (omega arith)) at h in cc
 
 -- a string that ends at the first quote or backslash is its own bytes
-plain_string : (s : List ℕ) (room : ℕ) (p : json.Place) → Calm p → (t r : List ℕ) → string room p s ≡ got t r → (u : List ℕ) → drop (length (plain s)) s ≡ 34 ∷ u → t ≡ plain s
+plain_string : (s : List ℕ) (room : ℕ) (p : json.Place) → Calm p → (t r : List ℕ) → string room p s ≡ got t r
+    → (u : List ℕ) → drop (length (plain s)) s ≡ 34 ∷ u → t ≡ plain s
 unfolding string plain
 plain_string [] room p c t r h u e = cc
-plain_string (b ∷ s) room p c t r h u e = go (eqb b 34) (eqb b 92) refl refl (λ room p c t r h. λ e. plain_string s room p c t r h u e) e
+plain_string (b ∷ s) room p c t r h u e =
+    go (eqb b 34) (eqb b 92) refl refl (λ room p c t r h. λ e. plain_string s room p c t r h u e) e
   where
     go : (x y : Bool) → eqb b 34 ≡ x → eqb b 92 ≡ y
         → ((room : ℕ) (p : json.Place) → Calm p → (t r : List ℕ) → string room p s ≡ got t r → drop (length (plain s)) s ≡ 34 ∷ u → t ≡ plain s)
@@ -127,7 +133,8 @@ plain_string (b ∷ s) room p c t r h u e = go (eqb b 34) (eqb b 92) refl refl (
     go false false ex ey f e = let z = calm_next b room s t r p c (eqb-false b 34 ex) (eqb-false b 92 ey) h in z.1.1.1.1 ∙ ap (λ x. b ∷ x) (f (room - 1) z.0 z.1.0 z.1.1.0 r z.1.1.1.0 e)
 
 -- a string whose bytes before the first quote or backslash end otherwise has an escape; one that ends there has none
-pub escape_there : (s : List ℕ) (room : ℕ) (p : json.Place) → Calm p → (t r : List ℕ) → string room p s ≡ got t r → starts_quote (drop (length (plain s)) s) ≡ false → has_escape s ≡ true
+pub escape_there : (s : List ℕ) (room : ℕ) (p : json.Place) → Calm p → (t r : List ℕ) → string room p s ≡ got t r
+    → starts_quote (drop (length (plain s)) s) ≡ false → has_escape s ≡ true
 unfolding string plain has_escape
 escape_there [] room p c t r h e = cc
 escape_there (b ∷ s) room p c t r h e = go (eqb b 34) (eqb b 92) refl refl (escape_there s) e
@@ -144,17 +151,21 @@ unfolding plain has_escape
 no_escape [] u e = refl
 no_escape (b ∷ s) u e = go (eqb b 34) (eqb b 92) refl (no_escape s u) e
   where
-    go : (x y : Bool) → eqb b 34 ≡ x → (drop (length (plain s)) s ≡ 34 ∷ u → has_escape s ≡ false) → drop (length (if x || y then [] else b ∷ plain s)) (b ∷ s) ≡ 34 ∷ u → (if x then false else if y then true else has_escape s) ≡ false
+    go : (x y : Bool) → eqb b 34 ≡ x → (drop (length (plain s)) s ≡ 34 ∷ u → has_escape s ≡ false)
+        → drop (length (if x || y then [] else b ∷ plain s)) (b ∷ s) ≡ 34 ∷ u
+        → (if x then false else if y then true else has_escape s) ≡ false
     go true y ex f e = refl
     go false true ex f e = none (eqb-false b 34 ex (let z : b ≡ 34 = cc in z))
     go false false ex f e = f e
 
 -- a string from its opening quote
-pub quoted_string : (m : List ℕ) (at : ℕ) (k s : List ℕ) → at < length m → quoted (drop at m) ≡ got k s → string 1024 between (drop (at + 1) m) ≡ got k s
+pub quoted_string : (m : List ℕ) (at : ℕ) (k s : List ℕ) → at < length m → quoted (drop at m) ≡ got k s
+    → string 1024 between (drop (at + 1) m) ≡ got k s
 unfolding quoted
 quoted_string m at k s l h = go (eqb (get_or m at 0) 34) (rw (here m at l) at h)
   where
-    go : (b : Bool) → (if b then string 1024 between (drop (at + 1) m) else fault malformed) ≡ got k s → string 1024 between (drop (at + 1) m) ≡ got k s
+    go : (b : Bool) → (if b then string 1024 between (drop (at + 1) m) else fault malformed) ≡ got k s
+        → string 1024 between (drop (at + 1) m) ≡ got k s
     go true h = h
     go false h = cc
 
@@ -172,55 +183,58 @@ quoted_inside m at h = go (ltb at (length m)) refl
     go true e = ltb-true _ _ e
     go false e = quoted_beyond m at (ltb-false _ _ e) h
 
-module _ (m : List ℕ) (at : ℕ) (l : at < length m) where
-  pub quoted_no : (get_or m at 0 ≡ 34 → ⊥) → quoted (drop at m) ≡ fault malformed
-  unfolding quoted
-  quoted_no e = rw (here m at l) (rw (ne_eqb (get_or m at 0) 34 e))
-
-  pub quoted_yes : get_or m at 0 ≡ 34 → quoted (drop at m) ≡ string 1024 between (drop (at + 1) m)
-  unfolding quoted
-  quoted_yes e = rw (here m at l) (rw (eq-eqb (get_or m at 0) 34 e))
-
 -- a string whose first quote or backslash is a quote is the bytes before it
-pub plain_stop_at : (m : List ℕ) (from r : ℕ) → r ≡ from + length (plain (drop from m)) → drop (length (plain (drop from m))) (drop from m) ≡ drop r m
+pub plain_stop_at : (m : List ℕ) (from r : ℕ) → r ≡ from + length (plain (drop from m))
+    → drop (length (plain (drop from m))) (drop from m) ≡ drop r m
 plain_stop_at m from r e = drop-drop (length (plain (drop from m))) from m ∙ ap (λ n. drop n m) (sym e)
 
-pub text_plain : (m : List ℕ) (from r : ℕ) {s t : List ℕ} (u : List ℕ) → string 1024 between (drop from m) ≡ got s t → r ≡ from + length (plain (drop from m)) → drop r m ≡ 34 ∷ u → take (r - from) (drop from m) ≡ s
+pub text_plain : (m : List ℕ) (from r : ℕ) {s t : List ℕ} (u : List ℕ) → string 1024 between (drop from m) ≡ got s t
+    → r ≡ from + length (plain (drop from m)) → drop r m ≡ 34 ∷ u → take (r - from) (drop from m) ≡ s
 text_plain m from r {s} {t} u h e q =
     let k : r - from ≡ length (plain (drop from m)) = omega arith in
-    rw k (plain_prefix (drop from m)) ∙ sym (plain_string (drop from m) 1024 between free s t h u (plain_stop_at m from r e ∙ q))
+    rw k (plain_prefix (drop from m))
+    ∙ sym (plain_string (drop from m) 1024 between free s t h u (plain_stop_at m from r e ∙ q))
 
 -- a string that was read, behind its opening quote; its first quote or backslash is a backslash
-pub quoted_read : (m : List ℕ) (at : ℕ) {k s : List ℕ} → quoted (drop at m) ≡ got k s → string 1024 between (drop (at + 1) m) ≡ got k s
+pub quoted_read : (m : List ℕ) (at : ℕ) {k s : List ℕ} → quoted (drop at m) ≡ got k s
+    → string 1024 between (drop (at + 1) m) ≡ got k s
 quoted_read m at {k} {s} h = quoted_string m at k s (quoted_inside m at h) h
 
-pub escaped : (m : List ℕ) (at : ℕ) {k s : List ℕ} → quoted (drop at m) ≡ got k s → (r : ℕ) → r ≡ at + 1 + length (plain (drop (at + 1) m)) → starts_quote (drop r m) ≡ false → has_escape (drop (at + 1) m) ≡ true
-escaped m at {k} {s} h r e q = escape_there (drop (at + 1) m) 1024 between free k s (quoted_read m at h) (ap starts_quote (plain_stop_at m (at + 1) r e) ∙ q)
+pub escaped : (m : List ℕ) (at : ℕ) {k s : List ℕ} → quoted (drop at m) ≡ got k s → (r : ℕ)
+    → r ≡ at + 1 + length (plain (drop (at + 1) m)) → starts_quote (drop r m) ≡ false
+    → has_escape (drop (at + 1) m) ≡ true
+escaped m at {k} {s} h r e q =
+    escape_there (drop (at + 1) m) 1024 between free k s (quoted_read m at h) (ap starts_quote (plain_stop_at m (at + 1) r e) ∙ q)
 
 pub starts_quote_lem : (s : List ℕ) → starts_quote s ≡ true → (u : List ℕ) × (s ≡ 34 ∷ u)
 starts_quote_lem [] e = none (let z : ◌≡◌ {A = Bool} false true = e in let y : ◌≡◌ {A = ℕ} 0 1 = cc in omega arith)
 starts_quote_lem (b ∷ s) e = (s, ap (λ x. x ∷ s) (eqb-true b 34 e))
 
-pub quote_there : (s t : List ℕ) (first : Option ℕ) {b : Bool} → Left first s t → option_eq eqb first (Some 34) ≡ b → starts_quote s ≡ b
+pub quote_there : (s t : List ℕ) (first : Option ℕ) {b : Bool} → Left first s t → option_eq eqb first (Some 34) ≡ b
+    → starts_quote s ≡ b
 quote_there s t None l e = rw l e
 quote_there s t (Some x) l e = rw l e
 
 -- a byte that gives decoded bytes
-gives_left : (room : ℕ) (p q : json.Place) (b : ℕ) (s out : List ℕ) → step p b ≡ gives out q → length out ≤ room → left (string room p (b ∷ s)) ≡ left (string (room - length out) q s)
+gives_left : (room : ℕ) (p q : json.Place) (b : ℕ) (s out : List ℕ) → step p b ≡ gives out q → length out ≤ room
+    → left (string room p (b ∷ s)) ≡ left (string (room - length out) q s)
 unfolding string go_on
-gives_left room p q b s out e h = rw e (rw (le-leb (length out) room h) (left_map (λ t. out ++ t) (string (room - length out) q s)))
+gives_left room p q b s out e h =
+    rw e (rw (le-leb (length out) room h) (left_map (λ t. out ++ t) (string (room - length out) q s)))
 
 -- ASCII bytes that stand for themselves
 ascii_step : (b : ℕ) → is_plain b ≡ true → step between b ≡ gives (b ∷ []) between
 unfolding step plain_byte
 ascii_step b e = grind (arith, nat_tests)
 
-plain_run : (s : List ℕ) (room k : ℕ) → k ≤ room → left (string room between s) ≡ left (string (room - prefix_len is_plain (take k s)) between (drop (prefix_len is_plain (take k s)) s))
+plain_run : (s : List ℕ) (room k : ℕ) → k ≤ room
+    → left (string room between s) ≡ left (string (room - prefix_len is_plain (take k s)) between (drop (prefix_len is_plain (take k s)) s))
 plain_run s room zero l = let z : room - 0 ≡ room = omega arith in rw z
 plain_run [] room (suc k) l = let z : room - 0 ≡ room = omega arith in rw z
 plain_run (b ∷ s) room (suc k) l = go (is_plain b) refl (plain_run s (room - 1) k (omega arith))
   where
-    go : (x : Bool) → is_plain b ≡ x → left (string (room - 1) between s) ≡ left (string (room - 1 - prefix_len is_plain (take k s)) between (drop (prefix_len is_plain (take k s)) s))
+    go : (x : Bool) → is_plain b ≡ x
+        → left (string (room - 1) between s) ≡ left (string (room - 1 - prefix_len is_plain (take k s)) between (drop (prefix_len is_plain (take k s)) s))
         → left (string room between (b ∷ s)) ≡ left (string (room - cond x (1 + prefix_len is_plain (take k s)) 0) between (drop (cond x (1 + prefix_len is_plain (take k s)) 0) (b ∷ s)))
     go true e h =
         let n = prefix_len is_plain (take k s) in
@@ -242,10 +256,10 @@ begun m at n e =
 pub ends_within : (m : List ℕ) (at n : ℕ) → n ≡ prefix_len is_plain (take 1024 (drop at m)) → n ≤ length m - at
 ends_within m at n e = let y = prefix_fits is_plain (take 1024 (drop at m)) in omega (arith, length-take 1024 (drop at m), length-drop at m)
 
-pub begun_quote : {m : List ℕ} {at i : ℕ} → Begun m at i → (first : Option ℕ) → Left first (drop i m) (drop (i + 1) m) → option_eq eqb first (Some 34) ≡ true → Reads m (string 1024 between (drop at m)) (Ok (i + 1))
+pub begun_quote : {m : List ℕ} {at i b : ℕ} → Begun m at i → drop i m ≡ b ∷ drop (i + 1) m → b ≡ 34
+    → Reads m (string 1024 between (drop at m)) (Ok (i + 1))
 unfolding string go_on step plain_byte
-begun_quote g None l q = none (let z : ◌≡◌ {A = ℕ} 0 1 = cc in omega arith)
-begun_quote g (Some b) l q = record { is = g.rest ∙ rw (l, eqb-true b 34 q) }
+begun_quote g l q = record { is = g.rest ∙ rw (l, q) }
 
 same_byte : (b c : ℕ) → eqb b c ≡ eqb c b
 same_byte b c = go (eqb b c) refl
@@ -274,7 +288,8 @@ pub record Compared (m key : List ℕ) (p : json.Place) (i k : ℕ) (t s from : 
   pub reads : string room p (drop i m) ≡ got text s
   pub same : equal t from ≡ equal text (drop k key)
 
-pub compared_out : {m key : List ℕ} {i k : ℕ} {t s from : List ℕ} {p : json.Place} {P : Type 0} → Compared m key p i k t s from → length m ≤ i → P
+pub compared_out : {m key : List ℕ} {i k : ℕ} {t s from : List ℕ} {p : json.Place} {P : Type 0}
+    → Compared m key p i k t s from → length m ≤ i → P
 unfolding string
 compared_out {m} {i = i} c l = none (let h = rw (past m i l) at c.reads in let z : ◌≡◌ {A = ℕ} 0 1 = cc in omega arith)
 
@@ -285,10 +300,12 @@ pub record Verbatim (m key : List ℕ) (i k : ℕ) (t s : List ℕ) : Type 0 whe
   pub so_far : Compared m key place i k t s key
 
 pub verbatim_start : (m key t s : List ℕ) → string 1024 between m ≡ got t s → Verbatim m key 0 0 t s
-verbatim_start m key t s h = record { place = between; calm = free; so_far = record { room = 1024; text = t; reads = h; same = refl } }
+verbatim_start m key t s h =
+    record { place = between; calm = free; so_far = record { room = 1024; text = t; reads = h; same = refl } }
 
 module _ {m key : List ℕ} {i k : ℕ} {t s : List ℕ} (v : Verbatim m key i k t s) (l : i < length m) where
-  byte : go_on (step v.place (get_or m i 0)) v.so_far.room (λ r q. string r q (drop (i + 1) m)) (drop (i + 1) m) ≡ got v.so_far.text s
+  byte : go_on (step v.place (get_or m i 0)) v.so_far.room (λ r q. string r q (drop (i + 1) m)) (drop (i + 1) m)
+      ≡ got v.so_far.text s
   unfolding string
   byte = rw (here m i l) at v.so_far.reads
 
@@ -305,7 +322,9 @@ module _ {m key : List ℕ} {i k : ℕ} {t s : List ℕ} (v : Verbatim m key i k
       unfolding equal
       verbatim_other d = let z = there in sym (v.so_far.same ∙ rw z.1.1.1.1 (go first kl d))
         where
-          go : (first : Option ℕ) → Left first (drop k key) (drop (k + 1) key) → option_eq eqb first (Some (get_or m i 0)) ≡ false → equal (get_or m i 0 ∷ there.1.1.0) (drop k key) ≡ false
+          go : (first : Option ℕ) → Left first (drop k key) (drop (k + 1) key)
+              → option_eq eqb first (Some (get_or m i 0)) ≡ false
+              → equal (get_or m i 0 ∷ there.1.1.0) (drop k key) ≡ false
           go None l d = rw l
           go (Some x) l d = rw (l, same_byte (get_or m i 0) x ∙ d)
 
@@ -324,6 +343,8 @@ module _ {m key : List ℕ} {i k : ℕ} {t s : List ℕ} (v : Verbatim m key i k
             };
           }
         where
-          go : (first : Option ℕ) → Left first (drop k key) (drop (k + 1) key) → option_eq eqb first (Some (get_or m i 0)) ≡ true → equal (get_or m i 0 ∷ there.1.1.0) (drop k key) ≡ equal there.1.1.0 (drop (k + 1) key)
+          go : (first : Option ℕ) → Left first (drop k key) (drop (k + 1) key)
+              → option_eq eqb first (Some (get_or m i 0)) ≡ true
+              → equal (get_or m i 0 ∷ there.1.1.0) (drop k key) ≡ equal there.1.1.0 (drop (k + 1) key)
           go None l d = none (let z : ◌≡◌ {A = ℕ} 0 1 = cc in omega arith)
           go (Some x) l d = rw (l, same_byte (get_or m i 0) x ∙ d)

@@ -48,7 +48,8 @@ module _ (m key : List ℕ) (at : ℕ) where
           go (got t u) z = sym e ∙ told_by t u z
           go (fault f) z = refl
 
-      pub name_read : r ≡ true → (x : Result ℕ code.Fault) → Reads m (string 1024 between (drop (at + 1) m)) x → {o : Bool} → o ≡ is_ok x → o ≡ name_is key (drop at m)
+      pub name_read : r ≡ true → (x : Result ℕ code.Fault) → Reads m (string 1024 between (drop (at + 1) m)) x
+          → {o : Bool} → o ≡ is_ok x → o ≡ name_is key (drop at m)
       unfolding is_text
       name_read e (Ok i) g o = let z = was_end g in o ∙ sym e ∙ told_by z.0 (drop i m) z.1 ∙ sym (behind ∙ ap (λ x. is_text x key) z.1)
       name_read e (Err f) g o = o ∙ sym (behind ∙ ap (λ x. is_text x key) (was_fault g))
@@ -68,7 +69,8 @@ module _ (m : List ℕ) (at : ℕ) (w : List ℕ) where
       go false = refl
 
   module _ {t r : List ℕ} (q : quoted (drop at m) ≡ got t r) where
-    pub told_plain : {u : List ℕ} → u ≡ t → has_escape (drop (at + 1) m) ≡ false → record { text = some u; work = w } ≡ text_at (drop at m) w
+    pub told_plain : {u : List ℕ} → u ≡ t → has_escape (drop (at + 1) m) ≡ false
+        → record { text = some u; work = w } ≡ text_at (drop at m) w
     unfolding told_at
     told_plain d e = sym (told_as ∙ rw (e, q, d))
 
@@ -77,7 +79,8 @@ module _ (m : List ℕ) (at : ℕ) (w : List ℕ) where
       unfolding told_at
       told_short l = sym (told_as ∙ rw (e, q) (rw (lt-leb 1024 (length w) l)))
 
-      pub told_work : (w' : List ℕ) (n : ℕ) → 1024 ≤ length w → length w' ≡ length w → n ≤ 1024 → take n w' ≡ t → drop n w' ≡ drop n w → record { text = some (take n w'); work = w' } ≡ text_at (drop at m) w
+      pub told_work : (w' : List ℕ) (n : ℕ) → 1024 ≤ length w → length w' ≡ length w → n ≤ 1024 → take n w' ≡ t
+          → drop n w' ≡ drop n w → record { text = some (take n w'); work = w' } ≡ text_at (drop at m) w
       unfolding told_at overwrite
       told_work w' n l c b d k =
           let a : length t ≡ n = ap length (sym d) ∙ length-take-le n w' (omega arith) in
@@ -87,5 +90,6 @@ module _ (m : List ℕ) (at : ℕ) (w : List ℕ) where
           sym (told_as ∙ rw (e, q) (rw (le-leb 1024 (length w) l, f, y, d) (ap (λ x. record { text = some t; work = x }) (sym z))))
 
 -- what a caller has of a string that was read
-pub text_read : (m w w' : List ℕ) (at : ℕ) (r : Answer TextAt) {t u s : List ℕ} → 1024 ≤ length w → told m w' r ≡ text_at (drop at m) w → u ≡ or_empty (text_of m w' r) → quoted (drop at m) ≡ got t s → u ≡ t
+pub text_read : (m w w' : List ℕ) (at : ℕ) (r : Answer TextAt) {t u s : List ℕ} → 1024 ≤ length w
+    → told m w' r ≡ text_at (drop at m) w → u ≡ or_empty (text_of m w' r) → quoted (drop at m) ≡ got t s → u ≡ t
 text_read m w w' at r {t} {u} {s} l e f q = f ∙ ap or_empty (ap (λ x. x.text) e ∙ text_told (drop at m) w t s l q)

@@ -1,5 +1,7 @@
--- A number is in the first four of the bytes that it begins; the library's numbers of bytes are those of the definition.
-use Rattle.std.proofs.Common.{◌≡◌, ℕ, suc, zero, ◌+◌, ◌*◌, List, [], ◌∷◌, take, drop, get_or, ◌∙◌, ap, refl, arith, get_or-take, get_or-drop}
+-- A number is in the first four of the bytes that it begins; the library's numbers of bytes are those of the
+-- definition.
+use Rattle.std.proofs.Common.{◌≡◌, ℕ, suc, zero, ◌+◌, ◌*◌, List, [], ◌∷◌, take, drop, get_or, ◌∙◌, ap, refl, arith}
+use Rattle.std.proofs.Common.{get_or-take, get_or-drop}
 use Rattle.std.specs.Int.{w32, w64, from_le_bytes, from_be_bytes}
 use Rattle.definition.specs.Listing.{number32}
 use Rattle.laws.specs.ListingSteps.{number_at}

@@ -1,5 +1,7 @@
 -- Where two texts part: behind what they share, one ends or their bytes differ.
-use Rattle.std.proofs.Common.{◌≡◌, ◌≢◌, ℕ, zero, suc, ◌+◌, ◌≤◌, ◌<◌, min, Bool, true, false, ltb, [], ◌∷◌, List, length, drop, take, get_or, refl, sym, ◌∙◌, ap, arith, length-drop, get_or-drop, drop-cons, drop_of_length-le}
+use Rattle.std.proofs.Common.{◌≡◌, ◌≢◌, ℕ, zero, suc, ◌+◌, ◌≤◌, ◌<◌, min, Bool, true, false, ltb, [], ◌∷◌, List}
+use Rattle.std.proofs.Common.{length, drop, take, get_or, refl, sym, ◌∙◌, ap, arith, length-drop, get_or-drop}
+use Rattle.std.proofs.Common.{drop-cons, drop_of_length-le}
 use Rattle.std.specs.Prelude.{Some, None, if◌then◌else◌}
 use Rattle.std.specs.Option.{is_some}
 use Rattle.std.specs.Bool.{then_some}
@@ -11,7 +13,8 @@ use Rattle.laws.specs.TextSteps.{smaller_start, smaller_here, larger_here, small
 use Rattle.laws.specs.ListingOrder.{Shared, smaller_shared}
 use Rattle.listing.specs.Meaning.{shared_length, parting_of}
 
-shared_from : (i : ℕ) (p q : Text) → take i p ≡ take i q → i ≤ length p → i ≤ length q → shared_length p q ≡ i + shared_length (drop i p) (drop i q)
+shared_from : (i : ℕ) (p q : Text) → take i p ≡ take i q → i ≤ length p → i ≤ length q
+    → shared_length p q ≡ i + shared_length (drop i p) (drop i q)
 unfolding shared_length
 shared_from zero p q e h k = omega arith
 shared_from (suc i) [] q e h k = let z : ⊥ = omega arith in absurd z
@@ -24,7 +27,8 @@ pub not_up : (p q : Text) → smaller p q ≡ false → None ≡ parting_of p q
 unfolding parting_of
 not_up p q h = rw h
 
-module _ (p q : Text) (i : ℕ) (e : take i p ≡ take i q) (h : i ≤ length p) (k : i < length q) (s : smaller (drop i p) (drop i q) ≡ smaller p q) where
+module _ (p q : Text) (i : ℕ) (e : take i p ≡ take i q) (h : i ≤ length p) (k : i < length q)
+    (s : smaller (drop i p) (drop i q) ≡ smaller p q) where
   up_at : smaller (drop i p) (drop i q) ≡ true → shared_length (drop i p) (drop i q) ≡ 0 → Some i ≡ parting_of p q
   unfolding parting_of
   up_at t z =
@@ -38,7 +42,11 @@ module _ (p q : Text) (i : ℕ) (e : take i p ≡ take i q) (h : i ≤ length p)
 
   pub up_here : i < length p → get_or p i 0 < get_or q i 0 → Some i ≡ parting_of p q
   unfolding shared_length
-  up_here n l = up_at (smaller_here p q i n k l) (rw (drop-cons p i 0 n, drop-cons q i 0 k, ne_eqb (get_or p i 0) (get_or q i 0) (λ z. omega arith)))
+  up_here n l = up_at (smaller_here p q i n k l) (rw (
+    drop-cons p i 0 n,
+    drop-cons q i 0 k,
+    ne_eqb (get_or p i 0) (get_or q i 0) (λ z. omega arith),
+  ))
 
 -- behind k shared bytes, the bytes are compared in pairs
 module _ (p q : Text) (k : ℕ) (s : Shared p q k) where
@@ -114,7 +122,8 @@ module _ (p q : Text) (k : ℕ) (s : Shared p q k) where
           let x : length q ≤ length p = ltb-false _ _ f in
           let z : k + length pairs ≡ length q = omega (arith, l, length-drop k p, length-drop k q, s.right) in
           let v : Shared p q (length q) = rw z at t in
-          not_up p q (sym (smaller_shared (length q) p q v.same v.left v.right) ∙ smaller_end p q (length q) (omega arith))
+          not_up p q (sym (smaller_shared (length q) p q v.same v.left v.right)
+          ∙ smaller_end p q (length q) (omega arith))
 
 -- a text rises to one that it is below
 pub told : (p q : Text) → is_some (parting_of p q) ≡ smaller p q

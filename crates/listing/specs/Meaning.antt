@@ -1,14 +1,16 @@
 -- What the types and answers of `listing` mean.
-use Rattle.std.specs.Prelude.{◌≡◌, List, [], ◌∷◌, ℕ, zero, suc, ◌+◌, ◌*◌, ◌≤◌, ◌<◌, Bool, true, false, ◌&&◌, eqb, leb, length, drop, get_or, if◌then◌else◌, Option, Some, None, Result, Ok, Err}
+use Rattle.std.specs.Prelude.{◌≡◌, List, [], ◌∷◌, ℕ, zero, suc, ◌+◌, ◌*◌, ◌≤◌, ◌<◌, Bool, true, false, ◌&&◌, eqb, leb}
+use Rattle.std.specs.Prelude.{length, drop, get_or, if◌then◌else◌, Option, Some, None, Result, Ok, Err}
 use Rattle.definition.specs.Text.{Text, equal, smaller}
-use Rattle.definition.specs.Listing.{Entry, no_entry, directory_entry, file_entry, Span, number32, entry_count, contents_length, found_at, place_at}
-use Rattle.laws.specs.ListingSteps.{part, path_length_at, contents_mark_at, row_by, rows_at}
+use Rattle.definition.specs.Listing.{Entry, no_entry, directory_entry, file_entry, Span, number32, found_at, place_at}
+use Rattle.laws.specs.ListingSteps.{part, path_length_at, row_by, rows_at}
 use Rattle.listing.specs.declared.Found.{Found}
 use Rattle.listing.specs.declared.Found.TheVariants.{Absent, Directory, File}
 use Rattle.listing.specs.declared.PastEnd.{PastEnd}
-use Rattle.listing.specs.declared.Spot.{Spot}
+use Rattle.listing.specs.Places.{start_of}
+use Rattle.listing.specs.declared.spot.Spot.{Spot}
 use Rattle.listing.specs.declared.Place.{Place}
-use Rattle.listing.specs.declared.Words.{Words}
+use Rattle.listing.specs.declared.words.Words.{Words}
 
 -- what a search found: the contents are that part of the bytes, and lie within them
 abbrev pub seen : List ℕ → Found → Entry (List ℕ)
@@ -38,32 +40,26 @@ abbrev pub Attempted : List ℕ → Text → Result Found PastEnd → Type 0
 Attempted l p (Ok f) = place_of f ≡ place_at l p
 Attempted l p (Err e) = Unit {0}
 
--- where the i-th entry begins, by lengths that are added up unclamped
-unfoldable pub start_of : List ℕ → ℕ → ℕ
-start_of l zero = 8 + 8 * entry_count l
-start_of l (suc i) = start_of l i + path_length_at l i + contents_length (contents_mark_at l i)
-
--- such a place, of one of at most 1,024 entries whose tables lie within the bytes
-pub record Reached (l : List ℕ) (n i at : ℕ) : Type 0 where
-  pub count : n ≡ entry_count l
-  pub few : n ≤ 1024
-  pub tables : 8 + 8 * n ≤ length l
-  pub index : i ≤ n
-  pub small : at ≤ 8 + 8 * n + i * 8589934592
-  pub place : at ≡ start_of l i
-
 -- whether the i-th path lies within the bytes and is the one sought; and that none before it is
 abbrev pub has_path : List ℕ → Text → ℕ → Bool
-has_path l p i = leb (start_of l i + path_length_at l i) (length l) && equal (part l (start_of l i) (start_of l i + path_length_at l i)) p
+has_path l p i =
+    leb (start_of l i + path_length_at l i) (length l)
+    && equal (part l (start_of l i) (start_of l i + path_length_at l i)) p
 
 abbrev pub NoneBefore : List ℕ → Text → ℕ → Type 0
 NoneBefore l p i = (j : ℕ) → j < i → has_path l p j ≡ false
 
--- what the search for an equal path says of n entries
-abbrev pub SoughtFor : List ℕ → Text → ℕ → Result (Option Spot) PastEnd → Type 0
-SoughtFor l p n (Ok (Some s)) = Reached l n s.index s.at × (s.index < n) × (has_path l p s.index ≡ true) × NoneBefore l p s.index
-SoughtFor l p n (Ok None) = place_at l p ≡ no_entry
-SoughtFor l p n (Err e) = Unit {0}
+-- a place in the same listing
+abbrev pub SameListing : Spot → Spot → Type 0
+SameListing s t = (t.listing.now ≡ s.listing.now) × (t.count ≡ s.count)
+
+-- what the search for an equal path says, from the first entry on
+abbrev pub SoughtFor : Spot → Text → Result (Option Spot) PastEnd → Type 0
+SoughtFor f p (Ok (Some s)) =
+    SameListing f s × (s.index < f.count) × (has_path f.listing.now p s.index ≡ true)
+    × NoneBefore f.listing.now p s.index
+SoughtFor f p (Ok None) = place_at f.listing.now p ≡ no_entry
+SoughtFor f p (Err e) = Unit {0}
 
 -- the first of the entries from the i-th on, where its path begins at `at`
 pub record Placed (l : List ℕ) (i at : ℕ) (p : Place) : Type 0 where
@@ -84,14 +80,6 @@ LowWord q k w = k + 8 ≤ length q → w ≡ number32 (drop k q) + 4294967296 * 
 -- the same with the first byte the highest; 0 where it has not so many
 abbrev pub HighWord : List ℕ → ℕ → ℕ → Type 0
 HighWord q k w = (k + 8 ≤ length q → w ≡ high_first 8 0 (drop k q)) × (0 < w → k + 8 ≤ length q)
-
--- windows of eight bytes, of which each begins in the one before it or right behind it
-pub record Windows (w : Words) : Type 0 where
-  pub low8 : w.at8 ≤ 8
-  pub high16 : w.at8 ≤ w.at16
-  pub low16 : w.at16 ≤ w.at8 + 8
-  pub high24 : w.at16 ≤ w.at24
-  pub low24 : w.at24 ≤ w.at16 + 8
 
 -- what stands in those windows of a text
 pub record WordsOf (q : List ℕ) (w : Words) : Type 0 where

@@ -12,7 +12,14 @@ ghost use Rattle.definition.specs.Ask.{asked};
 ghost use Rattle.laws.specs.ListingSteps.{part, path_length_at};
 ghost use Rattle.laws.specs.ListingOrder.{Shared};
 ghost use Rattle.laws.specs.SearchLaws.{Stopping};
-ghost use Rattle.listing.specs.Meaning.{Searched, place_of, Attempted, Placed, Reached, start_of, has_path, NoneBefore, SoughtFor, LowWord, HighWord, Windows, WordsOf, high_first, parting_of};
+ghost use Rattle.listing.specs.Places.{start_of};
+ghost use Rattle.listing.specs.Meaning.{Searched, place_of, Attempted, Placed, SameListing, has_path, NoneBefore, SoughtFor, WordsOf, high_first, parting_of};
+
+mod spot;
+mod words;
+
+use spot::Spot;
+use words::Words;
 
 // The number that stands in place of the contents' length of a directory.
 pub const DIRECTORY: usize = 4294967295;
@@ -85,11 +92,11 @@ fn reach(at: usize, k: usize, len: usize) -> usize
 }
 
 // Where an entry's path ends, and its contents.
-#[derive(Clone, Copy, Debug, PartialEq, Eq)]
-pub struct Place {
-    pub end: usize,
-    pub next: usize,
-    pub directory: bool,
+#[derive(Clone, Copy)]
+struct Place {
+    end: usize,
+    next: usize,
+    directory: bool,
 }
 
 // What a search finds: a file's contents are l[start..end].
@@ -120,12 +127,13 @@ fn clamped(l: &[u8], n: usize, i: usize, at: usize) -> Place
 fn shared(p: &[u8], q: &[u8]) -> usize
     ensures { Shared p.now q.now result }
 {
-    let n = p.len().min(q.len());
-    let mut i = 0;
-    while i + 4 <= n && number_at(p, i) == number_at(q, i) {
-        i += 4;
+    let fours = p.len().min(q.len()) / 4;
+    for k in 0..fours {
+        if number_at(p, 4 * k) != number_at(q, 4 * k) {
+            return 4 * k;
+        }
     }
-    i
+    4 * fours
 }
 
 // Equal texts, compared four bytes at a time.
@@ -199,42 +207,33 @@ fn search_clamped(l: &[u8], n: usize, path: &[u8]) -> Found
     Found::Absent
 }
 
-// Where an entry begins, by lengths that are added up unclamped.
-#[derive(Clone, Copy)]
-struct Spot {
-    index: usize,
-    at: usize,
-}
-
-// The first of the entries from `from` to `to` that has the path, or else entry `to`.
-fn pass_others(l: &[u8], n: usize, from: usize, start: usize, to: usize, path: &[u8]) -> Spot
-    requires { Reached l.now n from start × (from ≤ to) × (to ≤ n) }
-    ensures { Reached l.now n result.index result.at × (result.index ≤ to) × (NoneBefore l.now path.now from → NoneBefore l.now path.now result.index) × (result.index < to → has_path l.now path.now result.index ≡ true) }
+// The first of the entries from `from` to `to` that has the path, or else entry `to`: the caller goes on from where it stops.
+fn pass_others<'a>(from: Spot<'a>, to: usize, path: &[u8]) -> Spot<'a>
+    requires { (from.index ≤ to) × (to ≤ from.count) }
+    ensures same { SameListing from.entry result }
+    ensures before { result.index ≤ to }
+    ensures none { NoneBefore from.entry.listing.now path.now from.entry.index → NoneBefore from.entry.listing.now path.now result.index }
+    ensures found { result.index < to → has_path from.entry.listing.now path.now result.index ≡ true }
 {
-    let mut i = from;
-    let mut at = start;
-    while i < to {
-        let end = at + number_at(l, 8 + 4 * i);
-        if matches(l, at, end, path) {
-            return Spot { index: i, at };
+    let mut spot = from;
+    // A spot has its own index and step: a range would count the entries a second time, here and in the two loops below.
+    while spot.index < to {
+        if matches(spot.listing, spot.at, spot.end(), path) {
+            return spot;
         }
-        let c = number_at(l, 8 + 4 * n + 4 * i);
-        at = end + contents_length(c);
-        i += 1;
+        spot = spot.next();
     }
-    Spot { index: i, at }
+    spot
 }
 
-// Whether the i-th path lies within the bytes and is past the one sought.
-fn is_past(l: &[u8], n: usize, i: usize, at: usize, path: &[u8]) -> bool
-    requires { Reached l.now n i at × (i < n) }
-    ensures { result ≡ true → NoneBefore l.now path.now i → place_at l.now path.now ≡ no_entry }
+// Whether an entry's path lies within the bytes and is past the one sought.
+fn is_past(spot: Spot<'_>, path: &[u8]) -> bool
+    requires { spot.index < spot.count }
+    ensures { result ≡ true → NoneBefore spot.entry.listing.now path.now spot.entry.index → place_at spot.entry.listing.now path.now ≡ no_entry }
 {
-    let end = at + number_at(l, 8 + 4 * i);
-    if end > l.len() {
-        return false;
-    }
-    is_below(path, &l[at..end])
+    let l = spot.listing;
+    let end = spot.end();
+    end <= l.len() && is_below(path, &l[spot.at..end])
 }
 
 // The lengths of the entries run past the end of the listing.
@@ -243,26 +242,24 @@ struct PastEnd;
 
 // The first entry that has the path, which needs no order: lengths and last bytes are compared first. Now and then a path is compared whole:
 // where it is past the one sought and none before it was equal, none is found, whatever follows.
-fn first_equal(l: &[u8], n: usize, path: &[u8]) -> Result<Option<Spot>, PastEnd>
-    requires { Reached l.now n 0 (8 + 8 * n) }
-    ensures { SoughtFor l.now path.now n result }
+fn first_equal<'a>(first: Spot<'a>, path: &[u8]) -> Result<Option<Spot<'a>>, PastEnd>
+    requires { first.index ≡ 0 }
+    ensures { SoughtFor first.entry path.now result }
 {
+    let n = first.count;
     let step = 32 + n / 8;
-    let mut i = 0;
-    let mut at = 8 + 8 * n;
-    while i < n {
-        let to = n.min(i + step);
-        let s = pass_others(&*l, n, i, at, to, &*path);
-        i = s.index;
-        at = s.at;
-        if i < to {
-            return Ok(Some(s));
+    let mut spot = first;
+    while spot.index < n {
+        let to = n.min(spot.index + step);
+        spot = pass_others(spot, to, &*path);
+        if spot.index < to {
+            return Ok(Some(spot));
         }
-        if i < n && is_past(&*l, n, i, at, &*path) {
+        if spot.index < n && is_past(spot, &*path) {
             return Ok(None);
         }
     }
-    if at <= l.len() {
+    if spot.at <= spot.listing.len() {
         Ok(None)
     } else {
         Err(PastEnd)
@@ -286,146 +283,45 @@ fn eight(s: &[u8], k: usize) -> u64
     ])
 }
 
-// The first 32 bytes of the path that is sought, eight in a number, read once for all entries: those at 0, 8, 16 and 24, or in a shorter
-// path the last eight instead. Such windows overlap, which leaves the order as it is. Of a path of less than eight bytes they are 0, and
-// nothing is below that.
-#[derive(Clone, Copy)]
-struct Words {
-    start: u64,
-    next: u64,
-    first: u64,
-    at8: usize,
-    second: u64,
-    at16: usize,
-    third: u64,
-    at24: usize,
-    fourth: u64,
-}
-
-fn eight_or_zero(q: &[u8], k: usize) -> u64
-    requires { k < 1024 }
-    ensures { HighWord q.now k result }
+// Whether the bytes from an entry's path on show that it is below the path of those words; false says nothing. What is smaller with all the
+// bytes that follow is smaller by itself, so an entry's length need not be looked at.
+fn starts_below(l: &[u8], at: usize, w: Words) -> bool
+    requires { at < 9223372036854775808 }
+    ensures { result ≡ true → (q : List ℕ) → WordsOf q w → smaller (drop at l.now) q ≡ true }
 {
-    if k + 8 <= q.len() { eight(&*q, k) } else { 0 }
-}
-
-fn low_or_zero(q: &[u8], k: usize) -> u64
-    requires { k < 1024 }
-    ensures { LowWord q.now k result }
-{
-    if k + 8 <= q.len() { low(&*q, k) } else { 0 }
-}
-
-// Where the window at k of n bytes begins: so that it lies within them, if one does.
-fn window(n: usize, k: usize) -> usize
-    ensures { result ≡ min k (n - 8) }
-{
-    k.min(n.saturating_sub(8))
-}
-
-fn words_of(q: &[u8]) -> Words
-    ensures { WordsOf q.now result × Windows result }
-{
-    let n = q.len();
-    let b = window(n, 8);
-    let c = window(n, 16);
-    let d = window(n, 24);
-    Words {
-        start: low_or_zero(&*q, 0),
-        next: low_or_zero(&*q, b),
-        first: eight_or_zero(&*q, 0),
-        at8: b,
-        second: eight_or_zero(&*q, b),
-        at16: c,
-        third: eight_or_zero(&*q, c),
-        at24: d,
-        fourth: eight_or_zero(&*q, d),
-    }
-}
-
-// Whether its first 32 bytes show that a text is below the one of those words; false says nothing.
-fn surely_below(p: &[u8], w: Words) -> bool
-    requires { (32 ≤ length p.now) × Windows w }
-    ensures { result ≡ true → (q : List ℕ) → WordsOf q w → smaller p.now q ≡ true }
-{
-    if low(&*p, 0) != w.start {
-        return eight(&*p, 0) < w.first;
-    }
-    let b = w.at8;
-    if low(&*p, b) != w.next {
-        return eight(&*p, b) < w.second;
-    }
-    let c = w.at16;
-    let a = eight(&*p, c);
-    if a != w.third {
-        return a < w.third;
-    }
-    let d = w.at24;
-    eight(&*p, d) < w.fourth
-}
-
-// The first of the entries from `from` to `to` that is not surely below the path of those words, or else entry `to`. What is smaller with
-// all the bytes that follow is smaller by itself, so an entry's length need not be looked at.
-fn pass_below(l: &[u8], n: usize, from: usize, start: usize, to: usize, w: Words) -> Spot
-    requires { Reached l.now n from start × (from ≤ to) × (to ≤ n) × Windows w }
-    ensures { Reached l.now n result.index result.at × (from ≤ result.index) × (result.index ≤ to) × ((q : List ℕ) → WordsOf q w → Stopping l.now q from start → Stopping l.now q result.index result.at) }
-{
-    let mut i = from;
-    let mut at = start;
-    while i < to {
-        if at + 32 > l.len() {
-            return Spot { index: i, at };
-        }
-        if !surely_below(&l[at..], w) {
-            return Spot { index: i, at };
-        }
-        let k = number_at(l, 8 + 4 * i);
-        let c = number_at(l, 8 + 4 * n + 4 * i);
-        at = at + k + contents_length(c);
-        i += 1;
-    }
-    Spot { index: i, at }
+    at + 32 <= l.len() && w.surely_below(&l[at..])
 }
 
 // Whether every path before entry `to` is below the one sought. Entry `to` begins within the bytes, and so all before it lies within them.
-fn all_below(l: &[u8], n: usize, to: usize, path: &[u8]) -> bool
-    requires { Reached l.now n 0 (8 + 8 * n) × (to ≤ n) × (start_of l.now to ≤ length l.now) }
-    ensures { (result ≡ true → Stopping l.now path.now to (start_of l.now to)) × (result ≡ false → NoneBefore l.now path.now to → no_entry ≡ place_at l.now path.now) }
+fn all_below(first: Spot<'_>, to: usize, path: &[u8]) -> bool
+    requires { (first.index ≡ 0) × (to ≤ first.count) × (start_of first.listing.now to ≤ length first.listing.now) }
+    ensures { (result ≡ true → Stopping first.entry.listing.now path.now to (start_of first.entry.listing.now to)) × (result ≡ false → NoneBefore first.entry.listing.now path.now to → no_entry ≡ place_at first.entry.listing.now path.now) }
 {
-    let w = words_of(&*path);
-    let mut i = 0;
-    let mut at = 8 + 8 * n;
-    while i < to {
-        let s = pass_below(&*l, n, i, at, to, w);
-        i = s.index;
-        at = s.at;
-        if i >= to {
-            return true;
-        }
-        let end = at + number_at(l, 8 + 4 * i);
-        if !is_below(&l[at..end], path) {
+    let l = first.listing;
+    let w = Words::of(&*path);
+    let mut spot = first;
+    while spot.index < to {
+        if !starts_below(l, spot.at, w) && !is_below(&l[spot.at..spot.end()], path) {
             return false;
         }
-        let c = number_at(l, 8 + 4 * n + 4 * i);
-        at = end + contents_length(c);
-        i += 1;
+        spot = spot.next();
     }
     true
 }
 
-// What a search finds that ends at the i-th entry, whose path is the one sought.
-fn found_entry(l: &[u8], n: usize, i: usize, at: usize) -> Found
-    requires { Reached l.now n i at × (i < n) × (at + path_length_at l.now i ≤ length l.now) }
-    ensures { (q : List ℕ) → Stopping l.now q i at → has_path l.now q i ≡ true → place_of result ≡ place_at l.now q }
+// What a search finds that ends at an entry, whose path is the one sought.
+fn found_entry(spot: Spot<'_>) -> Found
+    requires { (spot.index < spot.count) × (spot.at + path_length_at spot.listing.now spot.index ≤ length spot.listing.now) }
+    ensures { (q : List ℕ) → Stopping spot.entry.listing.now q spot.entry.index spot.entry.at → has_path spot.entry.listing.now q spot.entry.index ≡ true → place_of result ≡ place_at spot.entry.listing.now q }
 {
-    let end = at + number_at(l, 8 + 4 * i);
-    let c = number_at(l, 8 + 4 * n + 4 * i);
+    let end = spot.end();
+    let c = spot.mark();
     if c == DIRECTORY {
         return Found::Directory;
     }
     Found::File {
         start: end,
-        end: reach(end, c, l.len()),
+        end: reach(end, c, spot.listing.len()),
     }
 }
 
@@ -435,14 +331,12 @@ fn search_tables(l: &[u8], n: usize, path: &[u8]) -> Result<Found, PastEnd>
     requires { n ≡ entry_count l.now }
     ensures { Attempted l.now path.now result }
 {
-    if n > 1024 || 8 + 8 * n > l.len() {
-        return Err(PastEnd);
-    }
-    let Some(spot) = first_equal(&*l, n, &*path)? else {
+    let first = Spot::first(&*l, n).ok_or(PastEnd)?;
+    let Some(spot) = first_equal(first, &*path)? else {
         return Ok(Found::Absent);
     };
-    if all_below(&*l, n, spot.index, &*path) {
-        return Ok(found_entry(&*l, n, spot.index, spot.at));
+    if all_below(first, spot.index, &*path) {
+        return Ok(found_entry(spot));
     }
     Ok(Found::Absent)
 }

@@ -1,3 +1,4 @@
+mod Turns
 mod Rises
 mod Steps
 mod Order

@@ -27,7 +27,8 @@ apart [] (y ∷ q) h = record { left = omega arith; right = omega arith; same = 
 apart (x ∷ p) [] h = absurd (false≢true h)
 apart (x ∷ p) (y ∷ q) h = go (eqb x y) refl (apart p q)
   where
-    go : (b : Bool) → eqb x y ≡ b → (smaller p q ≡ true → Apart p q (shared_length p q)) → Apart (x ∷ p) (y ∷ q) (if b then suc (shared_length p q) else 0)
+    go : (b : Bool) → eqb x y ≡ b → (smaller p q ≡ true → Apart p q (shared_length p q))
+        → Apart (x ∷ p) (y ∷ q) (if b then suc (shared_length p q) else 0)
     go true e f =
         let z : x ≡ y = eqb-true x y e in
         let l : ltb x y ≡ false = le-ltb x y (omega arith) in
@@ -38,14 +39,21 @@ apart (x ∷ p) (y ∷ q) h = go (eqb x y) refl (apart p q)
           same = cc;
           ends = ⊎_elim (λ n. inl (omega arith)) (λ n. inr (omega (arith, n.0), n.1)) a.ends;
         }
-    go false e f = record { left = omega arith; right = omega arith; same = refl; ends = inr (omega arith, ltb-true x y (below (ltb x y) (rw e at h))) }
+    go false e f = record {
+      left = omega arith;
+      right = omega arith;
+      same = refl;
+      ends =
+          inr (omega arith, ltb-true x y (below (ltb x y) (rw e at h)));
+    }
       where
         below : (b : Bool) → b || false ≡ true → b ≡ true
         below true u = refl
         below false u = u
 
 rises : (p q : Text) → smaller p q ≡ true → Rise p q (shared_length p q)
-rises p q h = let a = apart p q h in ⊎_elim (λ n. rise_short p q _ a.same a.left a.right n) (λ n. rise_here p q _ a.same a.left a.right n.0 n.1) a.ends
+rises p q h = let a = apart p q h in
+    ⊎_elim (λ n. rise_short p q _ a.same a.left a.right n) (λ n. rise_here p q _ a.same a.left a.right n.0 n.1) a.ends
 
 pub risen : {p q : Text} {t : Option ℕ} {j : ℕ} → t ≡ parting_of p q → t ≡ Some j → Rise p q j
 unfolding parting_of

@@ -2,56 +2,17 @@
 
 #![tactic(auto)]
 
-ghost use Rattle.std.specs.Prelude.{◌≡◌, Bool, true, ◌&&◌, ◌+◌, ◌≤◌, ◌<◌, length};
+ghost use Rattle.std.specs.Prelude.{◌≡◌, true, ◌&&◌, ◌≤◌, ◌<◌, length};
+ghost use Rattle.std.specs.Option.{is_some};
 ghost use Rattle.definition.specs.Text.{all};
-ghost use Rattle.definition.specs.Listing.{Row, rows, sizes_fit, first_is_root};
-ghost use Rattle.laws.specs.ListingSteps.{row, Standing};
+ghost use Rattle.definition.specs.Listing.{rows, sizes_fit, first_is_root};
 ghost use Rattle.laws.specs.ListingOrder.{Remarked, mark_of, in_order, sized};
-ghost use Rattle.listing.specs.Meaning.{Placed};
 ghost use Rattle.listing_check.specs.Meaning.{Stepped, verdict};
 
-use listing::{DIRECTORY, Place};
+mod entries;
+
+use entries::EntriesLeft;
 use refusal::Refusal;
-
-// The i-th of n entries of a listing whose sizes fit; its path begins at `at`.
-fn locate(l: &[u8], n: usize, i: usize, at: usize) -> Place
-    requires stands { Standing l.now n i at }
-    requires index { i < n }
-    ensures placed { Placed l.now i at result }
-    ensures next { Standing l.now n (i + 1) result.next }
-{
-    let j = 8 + 4 * n + 4 * i;
-    let c = listing::read_number(&l[j..j + 4]);
-    let k = 8 + 4 * i;
-    let end = at + listing::read_number(&l[k..k + 4]);
-    Place {
-        end,
-        next: end + listing::contents_length(c),
-        directory: c == DIRECTORY,
-    }
-}
-
-// Whether every entry keeps a rule of its path, its contents, and whether it is a directory.
-fn every<F: Fn(&[u8], &[u8], bool) -> bool>(l: &[u8], keeps: F) -> bool
-    requires sizes { sizes_fit l.now ≡ true }
-    requires can { F.IsAlwaysCallable keeps }
-    ensures { (rule : Row → Bool) → ((p : _) (c : _) (d : Bool) (b : Bool) → F.post keeps p c d b → b ≡ rule (row p.now d c.now)) → result ≡ all rule (rows l.now) }
-{
-    let n = listing::read_number(l);
-    let mut at = 8 + 8 * n;
-    for i in 0..n {
-        let place = locate(l, n, i, at);
-        if !keeps(
-            &l[at..place.end],
-            &l[place.end..place.next],
-            place.directory,
-        ) {
-            return false;
-        }
-        at = place.next;
-    }
-    true
-}
 
 // The marks of the next path, of k bytes, from those of a path of n that shares j; v is its own.
 fn remark(m: &mut [u8; 1025], j: usize, n: usize, k: usize, v: u8)
@@ -73,32 +34,23 @@ fn mark_of(d: bool, v: u8) -> u8
     if d { v + 1 } else { 0 }
 }
 
-// From the path p to the next, q, which is a directory or not; m has the marks of p, and then of q. Where the parent is a directory
-// that was seen, it is a path, and only the last component of q is left to test.
-fn step(p: &[u8], q: &[u8], d: bool, m: &mut [u8; 1025]) -> bool
+// From the path p to the next, q, which is a directory or not, or `None` where a rule is broken; m has the marks of p, and then of q. Where
+// the parent is a directory that was seen, it is a path, and only the last component of q is left to test.
+fn step(p: &[u8], q: &[u8], d: bool, m: &mut [u8; 1025]) -> Option<()>
     requires before { length p.now ≤ 1024 }
     requires here { length q.now ≤ 1024 }
-    ensures { Stepped p.now q.now d m.old m.new result }
+    ensures { Stepped p.now q.now d m.old m.new (is_some result) }
 {
-    let last = listing_rules::last_of(q);
-    let s = last.slash;
-    if s == q.len() || s == 1 {
-        return false;
-    }
-    let Some(j) = listing::rise(p, q) else {
-        return false;
-    };
+    let j = listing::rise(p, q)?;
+    let slash = listing_rules::slash_before_name(q)?;
     // how many bytes are the parent's
-    let k = s.max(1);
-    if k > j {
-        return false;
-    }
+    let k = slash.max(1);
     let v = m[k];
-    if v == 0 || v > 32 || !last.named {
-        return false;
+    if slash == 1 || k > j || v == 0 || v > 32 {
+        return None;
     }
     remark(m, j, p.len(), q.len(), mark_of(d, v));
-    true
+    Some(())
 }
 
 // 31 and the rule of depth, in one pass. mark[k] is 0, or the first k bytes of the path are a directory's, and one more than its depth.
@@ -107,24 +59,21 @@ fn ordered(l: &[u8]) -> bool
     requires sized { all sized (rows l.now) ≡ true }
     ensures { result ≡ (first_is_root (rows l.now) && in_order (rows l.now)) }
 {
-    let n = listing::read_number(l);
-    let start = 8 + 8 * n;
-    let root = locate(l, n, 0, start);
-    let mut before = &l[start..root.end];
-    if !text::equal(before, b"/") || !root.directory {
+    let mut left = EntriesLeft::new(l);
+    let Some(root) = left.next() else {
+        return false;
+    };
+    if !text::equal(root.path, b"/") || !root.directory {
         return false;
     }
+    let mut before = root.path;
     let mut mark = [0u8; 1025];
     mark[1] = 1;
-    let mut at = root.next;
-    for i in 1..n {
-        let place = locate(l, n, i, at);
-        let path = &l[at..place.end];
-        if !step(before, path, place.directory, &mut mark) {
+    for entry in left {
+        let Some(()) = step(before, entry.path, entry.directory, &mut mark) else {
             return false;
-        }
-        before = path;
-        at = place.next;
+        };
+        before = entry.path;
     }
     true
 }
@@ -136,24 +85,18 @@ pub fn check(l: &[u8]) -> Result<(), Refusal>
     ensures { result ≡ verdict l.now }
 {
     if !listing_rules::sizes(l)
-        || !every(
-            l,
-            |path, contents, _| listing_rules::is_sized(path, contents),
-        )
+        || !EntriesLeft::new(l).all(|e| listing_rules::is_sized(e.path, e.contents))
     {
         return Err(Refusal::Sizes);
     }
     if !ordered(l) {
         // a path that is too deep comes before any other fault
-        if !every(l, |path, _, _| text::count(path, b'/') <= 32) {
+        if !EntriesLeft::new(l).all(|e| text::count(e.path, b'/') <= 32) {
             return Err(Refusal::Sizes);
         }
         return Err(Refusal::Order);
     }
-    if !every(
-        l,
-        |path, _, directory| !(directory && listing_rules::is_manifest(path)),
-    ) {
+    if !EntriesLeft::new(l).all(|e| !(e.directory && listing_rules::is_manifest(e.path))) {
         return Err(Refusal::ManifestDirectory);
     }
     Ok(())

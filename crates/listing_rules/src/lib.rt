@@ -7,7 +7,7 @@ ghost use Rattle.definition.specs.Listing.{entry_count, sizes_fit, is_manifest, 
 ghost use Rattle.laws.specs.ListingSteps.{lengths_at};
 ghost use Rattle.laws.specs.ListingNameLaws.{is_name};
 ghost use Rattle.laws.specs.ListingOrder.{sized};
-ghost use Rattle.listing_rules.specs.Meaning.{Plain, Ended, Named};
+ghost use Rattle.listing_rules.specs.Meaning.{Plain, slash_before_name};
 
 // The bytes behind the last "/" are package.json.
 pub fn is_manifest(p: &[u8]) -> bool
@@ -42,10 +42,7 @@ pub fn sizes(l: &[u8]) -> bool
 {
     let n = listing::read_number(l);
     let t = listing::read_number(text::part(l, 4, 4));
-    if l.len() > 65536 || n < 1 || n > 1024 || l.len() != 8 + 8 * n + t {
-        return false;
-    }
-    lengths(l, n) == t
+    l.len() <= 65536 && 1 <= n && n <= 1024 && l.len() == 8 + 8 * n + t && lengths(l, n) == t
 }
 
 // 30's rules of one entry, a directory or not: the path's length, and contents in a manifest only.
@@ -55,13 +52,15 @@ pub fn is_sized(path: &[u8], inner: &[u8]) -> bool
     path.len() <= 1024 && (inner.is_empty() || is_manifest(path))
 }
 
+#[tactic(auto, using(std::proofs::lemmas::Bool::Decides::nat_tests, crate::proofs::Names::none), unfolding(definition::specs::Listing::is_component))]
 fn is_component(c: &[u8]) -> bool
     ensures { result ≡ is_component c.now }
 {
     !c.is_empty() && !text::equal(c, b".") && !text::equal(c, b"..")
 }
 
-// A component that may stand in a path: most are plain, and need no further look at their bytes.
+// A component that may stand in a path: plain bytes need no further look.
+#[tactic(auto, using(std::proofs::lemmas::Bool::Decides::nat_tests), unfolding(laws::specs::ListingNameLaws::is_name))]
 fn is_name(c: &[u8], plain: bool) -> bool
     requires { plain ≡ true → Plain c.now }
     ensures { result ≡ is_name c.now }
@@ -76,43 +75,20 @@ fn is_plain(b: u8) -> bool
     b != 0 && b < 128
 }
 
-// Where the last "/" of a path stands, or the path's end, and whether the bytes behind it are plain.
-#[derive(Clone, Copy)]
-struct Ending {
-    slash: usize,
-    plain: bool,
-}
-
-// The last component is read once, from behind.
-fn ending_of(q: &[u8]) -> Ending
-    ensures { Ended q.now result }
+// The place of the last "/" of a path, where a name that may stand in a path follows it. Most names are plain, and of those each byte is looked at
+// once: with `text::rfind`, and then `is_name` on what follows, the check of a listing took 1.2 to 1.3 times as long.
+pub fn slash_before_name(q: &[u8]) -> Option<usize>
+    ensures { result ≡ slash_before_name q.now }
 {
     let mut plain = true;
+    let mut slash = q.len();
     for i in (0..q.len()).rev() {
         if q[i] == b'/' {
-            return Ending { slash: i, plain };
+            slash = i;
+            break;
         }
         plain = plain && is_plain(q[i]);
     }
-    Ending {
-        slash: q.len(),
-        plain,
-    }
-}
-
-// Where the last "/" of a path stands, or the path's end, and whether a name that may stand in a path follows it.
-#[derive(Clone, Copy)]
-pub struct Last {
-    pub slash: usize,
-    pub named: bool,
-}
-
-pub fn last_of(q: &[u8]) -> Last
-    ensures { Named q.now result }
-{
-    let e = ending_of(q);
-    Last {
-        slash: e.slash,
-        named: e.slash < q.len() && is_name(&q[e.slash + 1..], e.plain),
-    }
+    let name = q.get(slash + 1..)?;
+    is_name(name, plain).then_some(slash)
 }

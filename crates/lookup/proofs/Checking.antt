@@ -14,7 +14,6 @@ use Rattle.refusal.specs.declared.Refusal.{Refusal}
 use Rattle.refusal.specs.declared.Refusal.TheVariants.{Sizes, Order, ManifestDirectory}
 use Rattle.refusal.specs.Numbers.{number_of}
 use Rattle.listing_check.specs.Meaning.{verdict}
-use Rattle.output.specs.Meaning.{refusal_by}
 
 abbrev or_else : Result (Unit {0}) Refusal → Option ℕ → Option ℕ
 or_else (Ok u) rest = rest

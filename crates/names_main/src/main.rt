@@ -3,7 +3,7 @@
 #![tactic(auto)]
 
 use path::PathBuf;
-use specifier::Specifier;
+use specifier::{Path, Specifier, SpecifierError};
 use std::io;
 
 type Text = &'static [u8];
@@ -253,7 +253,7 @@ fn report<T, F: Fn(&T) -> bool>(
 
 // A path that is not over-long and has this text.
 fn is(p: PathBuf, wanted: &[u8]) -> bool {
-    path::first(&p.bytes, p.len) == wanted && !p.over_long()
+    p.as_slice() == Some(wanted)
 }
 
 fn is_path_row(row: &PathRow) -> bool {
@@ -289,13 +289,6 @@ fn is_split(specifier: &[u8], name: &[u8], subpath: &[u8]) -> bool {
         && package_name::package_subpath(specifier) == subpath
 }
 
-// Into a buffer of eight bytes.
-fn is_dotted(subpath: &[u8], wanted: &[u8]) -> bool {
-    let mut buffer = [0u8; 8];
-    let n = package_name::dot_subpath(subpath, &mut buffer);
-    n == wanted.len() && path::first(&buffer, n) == path::first(wanted, 8)
-}
-
 fn stripped<'a>(s: &'a [u8], name: &[u8]) -> Option<&'a [u8]> {
     let at = package_name::strip_package_name(s, name)?;
     Some(specifier::tail(s, at))
@@ -303,27 +296,38 @@ fn stripped<'a>(s: &'a [u8], name: &[u8]) -> Option<&'a [u8]> {
 
 fn is_climb(specifier: &[u8], wanted: &[u8], is_up: bool) -> bool {
     let normal = package_name::normalized(specifier);
-    let text = path::first(&normal.bytes, normal.len);
+    let Some(text) = normal.as_slice() else {
+        return false;
+    };
     let climbs = package_name::may_climb(specifier) && package_name::climbs(text);
     text == wanted && climbs == is_up
 }
 
 fn is_parsed(s: &[u8], path: &[u8], query: &[u8], fragment: &[u8]) -> bool {
-    let parsed = Specifier::parse(s);
-    let before_query = path::first(s, parsed.query);
-    let same_path = if parsed.escaped {
-        is(specifier::unescaped(before_query), path)
-    } else {
-        before_query == path
+    let Ok(parsed) = Specifier::parse(s) else {
+        return false;
     };
-    !parsed.empty
-        && same_path
-        && specifier::between(s, parsed.query, parsed.fragment) == query
-        && specifier::tail(s, parsed.fragment) == fragment
+    let same_path = match parsed.path {
+        Path::Plain(text) => text == path,
+        Path::Escaped(text) => is(specifier::unescaped(text), path),
+    };
+    same_path && parsed.query == query && parsed.fragment == fragment
+}
+
+// The path of a specifier, where nothing in it is escaped.
+fn plain_path(s: &[u8]) -> Option<&[u8]> {
+    match Specifier::parse(s).ok()?.path {
+        Path::Plain(text) => Some(text),
+        Path::Escaped(_) => None,
+    }
+}
+
+fn is_empty(s: &[u8]) -> bool {
+    Specifier::parse(s).err() == Some(SpecifierError::Empty)
 }
 
 fn has_length(p: PathBuf, n: usize) -> bool {
-    p.len == n
+    p.as_slice().map(|text| text.len()) == Some(n)
 }
 
 // 2,048 bytes fit, 2,049 do not, in every function that makes a path longer.
@@ -374,12 +378,12 @@ fn stays_over(a: &[u8]) -> [bool; 7] {
 // 512 bytes of a question's specifier are within the limit, 513 over it. Where nothing is escaped, the path is a part of the specifier, and
 // over-long where that is.
 fn specifier_limits(a: &[u8]) -> [bool; 4] {
-    let parsed = Specifier::parse(a);
+    let path = plain_path(a);
     [
         package_name::check(path::first(a, 512)),
         !package_name::check(path::first(a, 513)),
-        !parsed.escaped,
-        parsed.query == 2049,
+        path.is_some(),
+        path.is_some_and(|text| text.len() == 2049),
     ]
 }
 
@@ -430,7 +434,7 @@ fn package_names(rt: &impl Print) -> io::Result<()> {
         rt,
         "dotted subpath",
         DOTTED,
-        |(subpath, wanted)| is_dotted(subpath, wanted),
+        |(subpath, wanted)| is(package_name::dotted(subpath), wanted),
     )?;
     report(
         rt,
@@ -466,7 +470,7 @@ fn specifiers(rt: &impl Print) -> io::Result<()> {
     report_parsed(rt, "marks in front and again", MARKS)?;
     report_parsed(rt, "escaped", ESCAPED)?;
     report_parsed(rt, "zero bytes that escape nothing", ESCAPE_NOTHING)?;
-    report(rt, "empty", EMPTY, |s| Specifier::parse(s).empty)
+    report(rt, "empty", EMPTY, |s| is_empty(s))
 }
 
 // The cases of a group, each as expected or not.

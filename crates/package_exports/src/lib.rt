@@ -3,7 +3,6 @@
 #![tactic(auto)]
 
 ghost use Rattle.std.specs.Prelude.{◌≤◌, length, drop};
-ghost use Rattle.definition.specs.Path.{manifest_of};
 ghost use Rattle.definition.specs.Json.{Json};
 ghost use Rattle.package_json.specs.Values.{Stands, Finds};
 ghost use Rattle.definition.specs.Settings.{texts_of};
@@ -12,6 +11,7 @@ ghost use Rattle.definition.specs.Walk.{by_exports, LOAD_PACKAGE_EXPORTS, in_sco
 ghost use Rattle.package_json.specs.Cursors.{placed};
 ghost use Rattle.consults.specs.Tape.{Done};
 ghost use Rattle.consults.specs.Meaning.{settings_in, seen_in, tape_of, step_of, Same};
+ghost use Rattle.directory.specs.Roots.{json_of};
 ghost use Rattle.directory.specs.Refusals.{DoneUnless};
 ghost use Rattle.package_exports.specs.Routines.{match_exports, room_for};
 
@@ -24,11 +24,11 @@ use settings::Kind;
 use std::ops::ControlFlow;
 
 // The first exports field of the settings that the manifest has.
-fn exports_field(m: &[u8], root: usize, s: &[u8]) -> Option<usize>
-    ensures { (j : Json) → Stands 16 (drop root m.now) j → Finds 15 (first_field j (texts_of s.now 4)) (placed m.now result) }
+fn exports_field(package: Package<'_>, s: &[u8]) -> Option<usize>
+    ensures { Finds 15 (first_field (json_of «package».entry.manifest.now) (texts_of s.now 4)) (placed «package».entry.manifest.now result) }
 {
     for name in settings::texts(s, Kind::ExportsFields) {
-        if let Some(at) = package_json::get(m, root, name) {
+        if let Some(at) = package_json::get(package.manifest, package.root, name) {
             return Some(at);
         }
     }
@@ -43,9 +43,8 @@ fn resolve_exports(
     package: Package<'_>,
     at: usize,
     tape: &mut Tape<'_>,
-    work: &mut [u8],
+    work: &mut [u8; 1024],
 ) -> ControlFlow<Ending>
-    requires { (1024 ≤ length work.old) × (length (manifest_of «package».dir.now) ≤ 2048) }
     ensures same { Same tape.old tape.new }
     ensures done { (j : Json) → Stands 15 (drop at «package».entry.manifest.now) j → Done (seen_in job.entry) (match_exports (settings_in job.entry) spec.now «package».entry.dir.now subpath.now j) (tape_of tape.old) (tape_of tape.new) (step_of result) }
 {
@@ -58,8 +57,8 @@ fn resolve_exports(
         url: dir,
     };
     let mut path = PathBuf::new();
-    let resolved = exports::package_exports_resolve(field, subpath, work, &mut path.bytes);
-    let target = path::first(&path.bytes, resolved.answer.len);
+    let resolved = exports::package_exports_resolve(field, subpath, work, &mut path);
+    let target = path.as_slice().unwrap_or(&[]);
     exports_ending::exports_ending(manifest, dir, subpath, resolved, target, tape, work)?;
     let context = resolved.answer.context;
     esm_match::resolve_in_context(job, spec, target, manifest, context, tape, work)
@@ -72,18 +71,17 @@ fn by_exports(
     sub: &[u8],
     package: Package<'_>,
     tape: &mut Tape<'_>,
-    work: &mut [u8],
+    work: &mut [u8; 1024],
 ) -> ControlFlow<Ending>
-    requires { (1024 ≤ length work.old) × (length sub.now ≤ 512) × (length (manifest_of «package».dir.now) ≤ 2048) }
+    requires { length sub.now ≤ 512 }
     ensures same { Same tape.old tape.new }
-    ensures done { (j : Json) → Stands 16 (drop «package».entry.root «package».entry.manifest.now) j → Done (seen_in job.entry) (by_exports (settings_in job.entry) spec.now «package».entry.dir.now sub.now (manifest_view (settings_in job.entry) j)) (tape_of tape.old) (tape_of tape.new) (step_of result) }
+    ensures done { Done (seen_in job.entry) (by_exports (settings_in job.entry) spec.now «package».entry.dir.now sub.now (manifest_view (settings_in job.entry) (json_of «package».entry.manifest.now))) (tape_of tape.old) (tape_of tape.new) (step_of result) }
 {
-    let Some(at) = exports_field(package.manifest, package.root, job.settings) else {
+    let Some(at) = exports_field(package, job.settings) else {
         return ControlFlow::Continue(());
     };
-    let mut dotted = [0u8; 513];
-    let n = package_name::dot_subpath(sub, &mut dotted);
-    let subpath = path::first(&dotted, n);
+    let dotted = package_name::dotted(sub);
+    let subpath = consults::or_refuse(dotted.as_slice(), Refusal::PathTooLong)?;
     resolve_exports(job, spec, subpath, package, at, tape, work)
 }
 
@@ -100,9 +98,7 @@ pub fn load_package_exports(
     ensures done { DoneUnless (seen_in job.entry) (LOAD_PACKAGE_EXPORTS (settings_in job.entry) spec.now sub.now dir.now) (tape_of tape.old) (room_for (length work.old) (length sub.now)) (tape_of tape.new) (step_of result) }
     ensures same { Same tape.old tape.new }
 {
-    if work.len() < 1024 {
-        return ControlFlow::Break(consults::refuse(Refusal::WorkTooShort));
-    }
+    let work = consults::or_refuse(work.first_chunk_mut(), Refusal::WorkTooShort)?;
     if sub.len() > 512 {
         return ControlFlow::Break(consults::refuse(Refusal::Specifier));
     }
@@ -118,16 +114,15 @@ fn in_scope(
     spec: &[u8],
     package: Package<'_>,
     tape: &mut Tape<'_>,
-    work: &mut [u8],
+    work: &mut [u8; 1024],
 ) -> ControlFlow<Ending>
-    requires { (1024 ≤ length work.old) × (length spec.now ≤ 512) × (length (manifest_of «package».dir.now) ≤ 2048) }
+    requires { length spec.now ≤ 512 }
     ensures same { Same tape.old tape.new }
-    ensures done { (j : Json) → Stands 16 (drop «package».entry.root «package».entry.manifest.now) j → Done (seen_in job.entry) (in_scope (settings_in job.entry) spec.now (record { dir = «package».entry.dir.now; manifest = manifest_view (settings_in job.entry) j })) (tape_of tape.old) (tape_of tape.new) (step_of result) }
+    ensures done { Done (seen_in job.entry) (in_scope (settings_in job.entry) spec.now (record { dir = «package».entry.dir.now; manifest = manifest_view (settings_in job.entry) (json_of «package».entry.manifest.now) })) (tape_of tape.old) (tape_of tape.new) (step_of result) }
 {
-    let Some(at) = directory::text_field(package.manifest, package.root, b"name", work) else {
+    let Some(name) = package.text_field(b"name", work) else {
         return ControlFlow::Continue(());
     };
-    let name = package_json::text_at(package.manifest, work, Some(at));
     let Some(n) = package_name::strip_package_name(spec, name) else {
         return ControlFlow::Continue(());
     };
@@ -146,9 +141,7 @@ pub fn load_package_self(
     ensures done { DoneUnless (seen_in job.entry) (LOAD_PACKAGE_SELF (settings_in job.entry) start.now spec.now) (tape_of tape.old) (room_for (length work.old) (length spec.now)) (tape_of tape.new) (step_of result) }
     ensures same { Same tape.old tape.new }
 {
-    if work.len() < 1024 {
-        return ControlFlow::Break(consults::refuse(Refusal::WorkTooShort));
-    }
+    let work = consults::or_refuse(work.first_chunk_mut(), Refusal::WorkTooShort)?;
     if spec.len() > 512 {
         return ControlFlow::Break(consults::refuse(Refusal::Specifier));
     }

@@ -1,3 +1,4 @@
-pub mod Whole
-pub mod Walks
 pub mod Values
+pub mod Walks
+pub mod Whole
+pub mod Parts

@@ -18,14 +18,16 @@ text_written (str t) s e = e
 text_written (arr js) s e = cc
 text_written (obj ms) s e = cc
 
-pub array_written : (w : Json) (js : Elements) → settled w ≡ arr js → (es : Elements) × ((w ≡ arr es) × (settled_elements es ≡ js))
+pub array_written : (w : Json) (js : Elements) → settled w ≡ arr js
+    → (es : Elements) × ((w ≡ arr es) × (settled_elements es ≡ js))
 unfolding settled
 array_written scalar js e = absurd (let z : ◌≡◌ {A = ℕ} 0 1 = cc in omega arith)
 array_written (str t) js e = absurd (let z : ◌≡◌ {A = ℕ} 0 1 = cc in omega arith)
 array_written (arr es) js e = (es, (refl, cc))
 array_written (obj ms) js e = absurd (let z : ◌≡◌ {A = ℕ} 0 1 = cc in omega arith)
 
-pub object_written : (w : Json) (ms : Members) → settled w ≡ obj ms → (os : Members) × ((w ≡ obj os) × (settled_members os ≡ ms))
+pub object_written : (w : Json) (ms : Members) → settled w ≡ obj ms
+    → (os : Members) × ((w ≡ obj os) × (settled_members os ≡ ms))
 unfolding settled
 object_written scalar ms e = absurd (let z : ◌≡◌ {A = ℕ} 0 1 = cc in omega arith)
 object_written (str t) ms e = absurd (let z : ◌≡◌ {A = ℕ} 0 1 = cc in omega arith)
@@ -43,5 +45,6 @@ finds_means at.means_none = finds_none
 pub get_here : {d : ℕ} {s : Text} {j : Json} (k : Text) → Stands (suc d) s j → Finds d (field j k) (get_at k s)
 get_here {d} {s} k h = subst (λ j. Finds d (field j k) (get_at k s)) h.means (finds_means (at.get_here k h.there))
 
-pub root_here : (m : Text) (j : Json) (r : Text) → parse m ≡ got j r → (check m ≡ rooted (skip_space (replace_bom m))) × Stands 16 (skip_space (replace_bom m)) (settled j)
+pub root_here : (m : Text) (j : Json) (r : Text) → parse m ≡ got j r
+    → (check m ≡ rooted (skip_space (replace_bom m))) × Stands 16 (skip_space (replace_bom m)) (settled j)
 root_here m j r e = let h = at.root_here m j r e in (h.0, stands h.1)

@@ -2,19 +2,23 @@
 use mathlib.Core.Path.{◌≡◌, refl, sym, ◌∙◌, ap}
 use mathlib.Core.Bool.{Bool, true, false, ◌&&◌}
 use mathlib.Core.List.{List, [], ◌∷◌}
-use Prim.Native.Nat.{ℕ, ◌<◌, ◌≤◌}
+use Prim.Native.Nat.{ℕ, ◌+◌, ◌<◌, ◌≤◌}
 use lib.ListN.{length, drop}
 use lib.Dec.{eqb}
-use borrow.Author.Tests.{lt-leb, le-leb}
-use Rattle.std.specs.Prelude.{Ok, Err}
+use borrow.Author.Tests.{lt-leb, le-leb, ne_eqb}
+use Rattle.std.specs.Prelude.{Result, Ok, Err}
+use Rattle.std.specs.Result.{result_ok}
 use Rattle.std.specs.List.{starts_with as slice_starts}
 use Rattle.definition.specs.Text.{starts_with, skip_while}
 use Rattle.definition.specs.Json.{malformed, beyond, and_then, skip_space, is_space, value, at_end, document, replace_bom, parse}
-use Rattle.definition.specs.JsonAt.{rooted, faulty, checked_by, check}
+use Rattle.definition.specs.JsonAt.{rooted, faulty, checked_by, check, opens_bracket, rest_of, value_end}
 use Rattle.json_text.specs.Scanned.{fault_of, Reads}
 use Rattle.json_text.specs.declared.Fault.{Fault}
+use Rattle.json_scalar.specs.Scalars.{scalar_of}
+use Rattle.package_json.specs.Cursors.{placed}
 use Rattle.json_string.proofs.Rules.{here, past}
 use Rattle.json_text.proofs.Laws.{was_end, was_fault}
+use Rattle.json_value.proofs.Loops.{value_scalar}
 
 none : {P : Type 0} → ⊥ → P
 none z = absurd z
@@ -61,3 +65,15 @@ module _ (m : List ℕ) (l : length m ≤ 16384) (from start : ℕ) (e : skip_sp
     pub check_all : length m ≤ k → rooted (drop start m) ≡ check m
     unfolding check checked_by at_end
     check_all b = rw parsed_as (rw ((was_end g).1, u, past m k b) (ap rooted (sym (e ∙ f))))
+
+-- behind a value that is no string and opens no bracket
+pub scalar_end : (m : List ℕ) (at b : ℕ) → drop at m ≡ b ∷ drop (at + 1) m → (b ≡ 34 → ⊥) → (b ≡ 91 → ⊥) → (b ≡ 123 → ⊥)
+    → (r : Result ℕ Fault) → Reads m (scalar_of (drop at m)) r → placed m (result_ok r) ≡ value_end (drop at m)
+unfolding value_end opens_bracket rest_of
+scalar_end m at b l q a o r g =
+    rw l (rw (ne_eqb b 34 q, ne_eqb b 91 a, ne_eqb b 123 o) (rw l at (ended r (value_scalar m 0 (drop at m) _ b l q a o g))))
+  where
+    ended : (r : Result ℕ Fault) → Reads m (value 0 (drop at m)) r
+        → placed m (result_ok r) ≡ rest_of (value 0 (drop at m))
+    ended (Ok i) h = rw (was_end h).1
+    ended (Err f) h = rw (was_fault h)

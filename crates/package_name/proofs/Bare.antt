@@ -18,11 +18,15 @@ unfolding before equal starts_with
 first_empty [] = refl
 first_empty (b ∷ s) = go (eqb b slash) refl
   where
-    go : (t : Bool) → eqb b slash ≡ t → not (eqb (length (if t then [] else b ∷ before slash s)) 0) ≡ not (eqb slash b && true)
+    go : (t : Bool) → eqb b slash ≡ t
+        → not (eqb (length (if t then [] else b ∷ before slash s)) 0) ≡ not (eqb slash b && true)
     go true h = rw (eq-eqb slash b (sym (eqb-true b slash h)))
-    go false h = rw (ne_eqb slash b (λ e. eqb-false b slash h (sym e)), ne_eqb (suc (length (before slash s))) 0 (λ e. omega arith))
+    go false h = rw
+        (ne_eqb slash b (λ e. eqb-false b slash h (sym e)), ne_eqb (suc (length (before slash s))) 0 (λ e. omega arith))
 
-pub bare_first : (s : List ℕ) (e : ℕ) → e ≡ 0 + length (before slash (drop 0 s)) → is_bare s ≡ not (eqb (length (take e s)) 0) && not (starts_with (text "#") s) && not (equal (take e s) (text ".")) && not (equal (take e s) (text ".."))
+pub bare_first : (s : List ℕ) (e : ℕ) → e ≡ 0 + length (before slash (drop 0 s))
+    → is_bare s ≡ not (eqb (length (take e s)) 0) && not (starts_with (text "#") s) && not (equal (take e s) (text "."))
+    && not (equal (take e s) (text ".."))
 unfolding bare_bytes
 bare_first s e at =
     let k : e ≡ length (before slash s) = omega arith in

@@ -12,7 +12,7 @@ use Rattle.std.specs.Prelude.{Some, None, if◌then◌else◌}
 use Rattle.definition.specs.Text.{Text, text, equal, is_one_of}
 use Rattle.definition.specs.Settings.{count_of, count_before, all_texts, texts_of}
 use Rattle.laws.specs.TextLaws.{equal_true}
-use Rattle.std.proofs.lemmas.List.{get_or-map, map-set}
+use Rattle.std.proofs.lemmas.List.{get_or-map, length-map, map-set}
 use Rattle.package_target.specs.Conditions.{place_in, condition_of, place_of, places, Turn}
 use Rattle.package_target.proofs.Places.{equal_sym}
 
@@ -31,14 +31,16 @@ place_from : (n : ℕ) (cs : List Text) (k : Text) → place_in n cs k < 256 →
 unfolding place_in
 place_from n [] k l = omega arith
 place_from n (c ∷ cs) k l =
-    by (equal c k) (λ e. rw e (omega arith)) (λ e. rw e (let b = place_from (suc n) cs k (rw e at l) in omega (arith, b)))
+    by (equal c k) (λ e. rw e (omega arith))
+    (λ e. rw e (let b = place_from (suc n) cs k (rw e at l) in omega (arith, b)))
 
 name_at : (n : ℕ) (cs : List Text) (k : Text) → place_in n cs k < 256 → get_or cs (place_in n cs k - n) [] ≡ k
 unfolding place_in
 name_at n [] k l = absurd (let z : ⊥ = omega arith in z)
 name_at n (c ∷ cs) k l = go (equal c k) refl l (λ a. name_at (suc n) cs k a)
   where
-    go : (u : Bool) → equal c k ≡ u → (if u then n else place_in (suc n) cs k) < 256 → (place_in (suc n) cs k < 256 → get_or cs (place_in (suc n) cs k - suc n) [] ≡ k)
+    go : (u : Bool) → equal c k ≡ u → (if u then n else place_in (suc n) cs k) < 256
+        → (place_in (suc n) cs k < 256 → get_or cs (place_in (suc n) cs k - suc n) [] ≡ k)
         → get_or (c ∷ cs) ((if u then n else place_in (suc n) cs k) - n) [] ≡ k
     go true e l f = let z : n - n ≡ 0 = omega arith in rw z (equal_true c k e)
     go false e l f =
@@ -46,7 +48,8 @@ name_at n (c ∷ cs) k l = go (equal c k) refl l (λ a. name_at (suc n) cs k a)
         let z : place_in (suc n) cs k - n ≡ suc (place_in (suc n) cs k - suc n) = omega arith in
         rw z (f l)
 
-pub condition_holds : (cs : List Text) (k : Text) → length cs < 256 → equal k (text "default") || is_one_of cs k ≡ ltb (condition_of cs k) 256
+pub condition_holds : (cs : List Text) (k : Text) → length cs < 256
+    → equal k (text "default") || is_one_of cs k ≡ ltb (condition_of cs k) 256
 unfolding condition_of
 condition_holds cs k l = by (equal k (text "default")) (λ e. rw e) (λ e. rw e (place_in_lem 1 cs k (omega arith)))
 
@@ -66,7 +69,8 @@ named cs k l = by (equal k (text "default")) (λ e. rw e (sym (equal_true k (tex
         let z : place_in 1 cs k ≡ suc (place_in 1 cs k - 1) = omega (arith, f) in
         rw e (ap (name_of cs) z ∙ name_at 1 cs k a)
 
-pub same_condition : (cs : List Text) (k l : Text) → condition_of cs k < 256 → condition_of cs k ≡ condition_of cs l → k ≡ l
+pub same_condition : (cs : List Text) (k l : Text) → condition_of cs k < 256 → condition_of cs k ≡ condition_of cs l
+    → k ≡ l
 same_condition cs k l a e = sym (named cs k a) ∙ ap (name_of cs) e ∙ named cs l (omega (arith, a, e))
 
 -- the place of a name is the first at which a test finds it
@@ -125,15 +129,21 @@ pub none_written : (end n : ℕ) → places end (replicate n end) ≡ replicate 
 none_written end zero = refl
 none_written end (suc n) = rw (le-ltb end end (omega arith)) (ap (λ y. None ∷ y) (none_written end n))
 
-pub place_written : (end : ℕ) (values : List ℕ) (k v : ℕ) → v < end → places end (set values k v) ≡ set (places end values) k (Some v)
-place_written end values k v l = map-set (place_of end) values k v ∙ ap (λ y. set (places end values) k y) (rw (lt-ltb v end l))
+pub places_size : (end : ℕ) (values : List ℕ) → length values ≡ 256 → length (places end values) ≡ 256
+places_size end values l = length-map values (place_of end) ∙ l
+
+pub place_written : (end : ℕ) (values : List ℕ) (k v : ℕ) → v < end
+    → places end (set values k v) ≡ set (places end values) k (Some v)
+place_written end values k v l =
+    map-set (place_of end) values k v ∙ ap (λ y. set (places end values) k y) (rw (lt-ltb v end l))
 
 -- the turn of a condition
 module _ (end : ℕ) (values : List ℕ) (l : length values ≡ 256) where
   no_place : place_of end end ≡ None
   no_place = rw (le-ltb end end (omega arith))
 
-  pub turn_taken : (k : ℕ) → k < 256 → Turn k (places end values) (places end (set values k end)) (place_of end (get_or values k 0))
+  pub turn_taken : (k : ℕ) → k < 256
+      → Turn k (places end values) (places end (set values k end)) (place_of end (get_or values k 0))
   turn_taken k h = record {
     taken = sym (get_or-map (place_of end) values k 0 None (omega arith));
     others = map-set (place_of end) values k end ∙ ap (λ y. set (places end values) k y) no_place;

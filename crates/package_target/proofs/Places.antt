@@ -2,32 +2,28 @@
 use mathlib.Core.Path.{◌≡◌, refl, sym, ◌∙◌, ap}
 use mathlib.Core.Bool.{Bool, true, false, ◌&&◌}
 use mathlib.Core.List.{List, [], ◌∷◌}
-use mathlib.Core.Option.{none, some}
-use Prim.Native.Nat.{ℕ, zero, suc, ◌-◌, ◌≤◌}
+use mathlib.Core.Option.{some}
+use Prim.Native.Nat.{ℕ, zero, suc, ◌≤◌}
 use native.Mathlib.Omega.{arith}
 use lib.ListN.{length, drop, drop_of_length-le}
 use lib.Dec.{eqb}
 use borrow.Author.Tests.{eq-eqb, ne_eqb, eqb-true, eqb-false}
 use Rattle.definition.specs.Text.{equal}
-use Rattle.definition.specs.Json.{Json, scalar, str, arr, obj, Elements, no_element, element, Members, no_member, member, Read, got, value, value_by, quoted, settled, settled_elements, settled_members}
+use Rattle.definition.specs.Json.{Json, scalar, str, arr, obj, Elements, Members, got, value, value_by, quoted, settled, settled_members}
 use Rattle.definition.specs.JsonAt as json
 use Rattle.definition.specs.JsonAt.{a_scalar, a_string, an_array, an_object, kind_at, first_member, first_element, next_element, member_value, next_member, is_text, name_is, text_at}
 use Rattle.laws.specs.JsonAtLaws as at
-use Rattle.laws.specs.JsonAtLaws.{members_there, no_members, elements_there, no_elements as at_no_elements, text_shape, array_shape, object_shape, scalar_shape}
+use Rattle.laws.specs.JsonAtLaws.{text_shape, array_shape, object_shape, scalar_shape}
 use Rattle.laws.specs.JsonSoundLaws.{quoted_sound}
-use Rattle.std.specs.Prelude.{Option, Some, None, unwrap_or, ◌⊎◌}
-use Rattle.std.proofs.Common.{inl, inr}
-use Rattle.json_text.specs.declared.TextAt.{TextAt}
+use Rattle.std.specs.Prelude.{Option, Some, None, unwrap_or}
 use Rattle.package_json.specs.Values as values
 use Rattle.package_json.proofs.Values.{text_written, array_written, object_written}
 use Rattle.package_json.specs.Cursors as cursors
 use Rattle.package_json.specs.Cursors.{placed}
-use Rattle.json_text.specs.Texts.{text_of, told, or_empty}
 use Rattle.package_json.specs.declared.Kind.{Kind}
 use Rattle.package_json.specs.declared.Kind.TheVariants.{Scalar, String, Array, Object}
 use Rattle.targets.specs.Contexts.{read_text, string_at}
-use Rattle.targets.proofs.Contexts.{text_read}
-use Rattle.package_target.specs.Places.{Written, Stands, MembersAt, ElementsAt, MembersFrom, ElementsFrom, kind_of}
+use Rattle.package_target.specs.Places.{Written, Stands, kind_of}
 
 pub none_of : {P : Type 0} → ⊥ → P
 none_of z = absurd z
@@ -43,50 +39,8 @@ pub record ObjectAt (m : List ℕ) (d i : ℕ) (ms : Members) : Type 0 where
   pub means : settled_members members ≡ ms
 
 pub object_at : {m : List ℕ} {d i : ℕ} {ms : Members} → Stands m d i (obj ms) → ObjectAt m d i ms
-object_at {ms = ms} h = let w = object_written h.written ms h.means in record { members = w.0; there = rw w.1.0 at h.there; means = w.1.1 }
-
--- from the definition's cursors to the code's
-none_members : {d n : ℕ} {ms : Members} → at.MembersFrom d n ms none → ms ≡ no_member
-none_members no_members = refl
-
-none_elements : {d n : ℕ} {js : Elements} → at.ElementsFrom d n js none → js ≡ no_element
-none_elements at_no_elements = refl
-
-members_from : (m : List ℕ) (d n : ℕ) (ms : Members) (c : Option ℕ) → at.MembersFrom d n ms (placed m c) → MembersFrom m d n ms c
-members_from m d n ms (Some i) (members_there h) = record { here = h }
-members_from m d n ms None h = none_members h
-
-elements_from : (m : List ℕ) (d n : ℕ) (es js : Elements) (c : Option ℕ) → settled_elements es ≡ js → at.ElementsFrom d n es (placed m c) → ElementsFrom m d n js c
-elements_from m d n es js (Some i) e (elements_there h) = record { written = es; here = h; means = e }
-elements_from m d n es js None e h = sym e ∙ ap settled_elements (none_elements h) ∙ (unfold settled_elements in refl)
-
--- the first of what a bracket opens
-module _ (m : List ℕ) (i : ℕ) (c : Option ℕ) where
-  pub first_members : placed m c ≡ first_member (drop i m) → (d : ℕ) (ms : Members) → Written m (suc d) i (obj ms) → MembersFrom m d 128 ms c
-  first_members e d ms h = members_from m d 128 ms c (rw e (at.first_member_lem h.here))
-
-  pub first_elements : placed m c ≡ first_element (drop i m) → (d : ℕ) (js : Elements) → Stands m (suc d) i (arr js) → ElementsFrom m d 128 js c
-  first_elements e d js h =
-      let w = array_written h.written js h.means in
-      elements_from m d 128 w.0 js c w.1.1 (rw e (at.first_element_lem (rw w.1.0 at h.there.here)))
-
-  -- an element, and the next
-  pub element_is : placed m c ≡ next_element (drop i m) → (d n : ℕ) (j : Json) (js : Elements) → ElementsAt m d n i (element j js) → Stands m d i j × ElementsFrom m d (n - 1) js c
-  element_is e d n j js h =
-      let x = at.element_here h.here in
-      let s : element (settled x.first) (settled_elements x.others) ≡ element j js = unfold settled_elements in (ap settled_elements (sym x.is) ∙ h.means) in
-      let a : settled x.first ≡ j = cc in
-      let b : settled_elements x.others ≡ js = cc in
-      let l : x.left ≡ n - 1 = omega (arith, x.count) in
-      (record { written = x.first; there = record { here = x.stands }; means = a }, elements_from m d (n - 1) x.others js c b (rw e (rw l at x.next)))
-
-  -- the next member
-  pub next_member_is : placed m c ≡ next_member (drop i m) → (d n : ℕ) (k : List ℕ) (j : Json) (ms : Members) → MembersAt m d n i (member k j ms) → MembersFrom m d (n - 1) ms c
-  next_member_is e d n k j ms h =
-      let x = at.member_here h.here in
-      let b : x.others ≡ ms = cc x.is in
-      let l : x.left ≡ n - 1 = omega (arith, x.count) in
-      members_from m d (n - 1) ms c (rw e (rw (l, b) at x.next))
+object_at {ms = ms} h =
+    let w = object_written h.written ms h.means in record { members = w.0; there = rw w.1.0 at h.there; means = w.1.1 }
 
 -- a value that is written stands for what it means, and stands within the manifest
 pub stands : {m : List ℕ} {d i : ℕ} {j : Json} → Written m d i j → Stands m d i (settled j)
@@ -100,33 +54,19 @@ written_inside m d i j h l = go d (rw (drop_of_length-le m l) at h.here.reads)
     go zero e = let z : ◌≡◌ {A = ℕ} 0 1 = cc in omega arith
     go (suc d) e = let z : ◌≡◌ {A = ℕ} 0 1 = cc in omega arith
 
--- one element
-pub record OneElement (m : List ℕ) (d n i : ℕ) (js : Elements) : Type 0 where
-  pub val : Json
-  pub others : Elements
-  pub is : js ≡ element val others
-
-pub one_of : {m : List ℕ} {d n i : ℕ} {js : Elements} → ElementsAt m d n i js → OneElement m d n i js
-one_of h =
-    let x = at.element_here h.here in
-    record { val = settled x.first; others = settled_elements x.others; is = unfold settled_elements in (sym h.means ∙ ap settled_elements x.is) }
-
--- where the walk over elements ends, none is left
-pub no_elements : (m : List ℕ) (d n : ℕ) (js : Elements) (c : Option ℕ) → ElementsFrom m d n js c → (c ≡ None) ⊎ (n ≡ 0) → js ≡ no_element
-no_elements m d n js None h e = h
-no_elements m d n js (Some i) h (inl z) = none_of (let z : ◌≡◌ {A = ℕ} 0 1 = cc in omega arith)
-no_elements m d n js (Some i) h (inr z) = none_of (let x = at.element_here h.here in omega (arith, x.count))
-
 -- brackets need depth
 module _ (m : List ℕ) (d i : ℕ) where
-  depth_of : (j : Json) (r s : List ℕ) → at.Shape d j r s → d ≡ 0 → (j ≡ scalar → ⊥) → ((t : List ℕ) → j ≡ str t → ⊥) → ⊥
+  depth_of : (j : Json) (r s : List ℕ) → at.Shape d j r s → d ≡ 0 → (j ≡ scalar → ⊥) → ((t : List ℕ) → j ≡ str t → ⊥)
+      → ⊥
   depth_of j r s (text_shape t u e q f) z a b = b t q
   depth_of j r s (array_shape p u e q f) z a b = omega arith
   depth_of j r s (object_shape p u e q f) z a b = omega arith
   depth_of j r s (scalar_shape c u e n1 n2 n3 k q) z a b = a (sym q)
 
   deep : {j : Json} (h : Stands m d i j) → d ≡ 0 → (h.written ≡ scalar → ⊥) → ((t : List ℕ) → h.written ≡ str t → ⊥) → ⊥
-  deep h z a b = let s = h.there.here in depth_of h.written s.rest (drop i m) (at.shape d h.written s.rest (drop i m) s.reads) z a b
+  deep h z a b =
+      let s = h.there.here in
+      depth_of h.written s.rest (drop i m) (at.shape d h.written s.rest (drop i m) s.reads) z a b
 
   pub array_depth : (js : Elements) → Stands m d i (arr js) → d ≡ 0 → ⊥
   array_depth js h z =
@@ -189,26 +129,9 @@ module _ {m : List ℕ} {d i : ℕ} {s : List ℕ} (h : Stands m d i (str s)) wh
   pub string_is : string_at m i ≡ s
   string_is = ap read_text (at.text_here text_there)
 
-  pub text_target : (w w' : List ℕ) (r : Option TextAt) (t : List ℕ) → 1024 ≤ length w → told m w' r ≡ text_at (drop i m) w → t ≡ or_empty (text_of m w' r) → t ≡ s
-  text_target w w' r t l e f = f ∙ ap (λ z. or_empty z.text) e ∙ text_read (drop i m) w l ∙ string_is
-
--- a key's name is a string too
-pub name_stands : (m : List ℕ) (d i : ℕ) (k s : List ℕ) → quoted (drop i m) ≡ got k s → Stands m d i (str k)
-name_stands m d i k s h = record { written = str k; there = record { here = record { rest = s; reads = go (drop i m) d h } }; means = unfold settled in refl }
-  where
-    by : (a o : List ℕ → Read Json) (t : List ℕ) → quoted t ≡ got k s → value_by a o t ≡ got (str k) s
-    by a o [] h = unfold quoted in none_of (let o : ◌≡◌ {A = ℕ} 0 1 = cc in omega arith)
-    by a o (b ∷ t) h = first (eqb b 34) refl
-      where
-        first : (p : Bool) → eqb b 34 ≡ p → value_by a o (b ∷ t) ≡ got (str k) s
-        first true e = unfold value_by in rw (e, h)
-        first false e = none_of (unfold quoted in (let g = rw e at h in let o : ◌≡◌ {A = ℕ} 0 1 = cc in omega arith))
-
-    go : (t : List ℕ) (d : ℕ) → quoted t ≡ got k s → value d t ≡ got (str k) s
-    go t zero h = unfold value in by _ _ t h
-    go t (suc d) h = unfold value in by _ _ t h
-
-pub name_equal : (m key : List ℕ) (i : ℕ) (b : Bool) → b ≡ name_is key (drop i m) → (t s : List ℕ) → quoted (drop i m) ≡ got t s → b ≡ equal t key
+-- a name that is compared with a text
+pub name_equal : (m key : List ℕ) (i : ℕ) (b : Bool) → b ≡ name_is key (drop i m) → (t s : List ℕ)
+    → quoted (drop i m) ≡ got t s → b ≡ equal t key
 unfolding name_is is_text
 name_equal m key i b e t s h = e ∙ rw h
 

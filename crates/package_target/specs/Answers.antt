@@ -1,5 +1,5 @@
 -- The request that a target is resolved for, and which answers let another target be tried.
-use Rattle.std.specs.Prelude.{◌≡◌, ℕ, Bool, true, false, Option, is_some}
+use Rattle.std.specs.Prelude.{◌≡◌, Bool, true, false}
 use Rattle.definition.specs.Exports.{Request}
 use Rattle.definition.specs.Settings.{texts_of}
 use Rattle.targets.specs.declared.Outcome.{Outcome}
@@ -18,7 +18,7 @@ pub record SameBuffers (before after : Buffers) : Type 0 where
   pub work : after.work.ghost_name ≡ before.work.ghost_name
   pub path : after.path.ghost_name ≡ before.path.ghost_name
 
--- which answers let the next condition, or the next element, be tried
+-- which answers let the next condition be tried
 abbrev pub is_nothing : Outcome → Bool
 is_nothing Found = false
 is_nothing Nothing = true
@@ -30,13 +30,14 @@ is_nothing ConfigMixed = false
 is_nothing ConfigDirectory = false
 is_nothing OverLong = false
 
-abbrev pub is_passed : Outcome → Option ℕ → Bool
-is_passed Found c = false
-is_passed Nothing c = true
-is_passed Empty c = is_some c
-is_passed InvalidTarget c = is_some c
-is_passed NotExportedMatch c = is_some c
-is_passed NotExported c = is_some c
-is_passed ConfigMixed c = is_some c
-is_passed ConfigDirectory c = is_some c
-is_passed OverLong c = false
+-- and which end an array
+abbrev pub ends_array : Outcome → Bool
+ends_array Found = true
+ends_array Nothing = false
+ends_array Empty = false
+ends_array InvalidTarget = false
+ends_array NotExportedMatch = false
+ends_array NotExported = false
+ends_array ConfigMixed = false
+ends_array ConfigDirectory = false
+ends_array OverLong = true

@@ -36,10 +36,13 @@ StandsIf m d None (some j) = ⊥
 StandsIf m d (Some i) none = ⊥
 StandsIf m d (Some i) (some j) = Written m d i j
 
--- of each condition, the place of the last value that a member of its name has
-pub record LastValues (m : List ℕ) (d : ℕ) (cs : List Text) (values : List (Option ℕ)) (ms : Members) : Type 0 where
-  pub size : length values ≡ 256
-  pub last : (k : Text) → condition_of cs k < 256 → StandsIf m d (get_or values (condition_of cs k) None) (last_from k none ms)
+-- of each condition, the place of the last value that a member of its name has, and what stood before where none has
+pub record LastValues (m : List ℕ) (d : ℕ) (cs : List Text) (before values : List (Option ℕ)) (ms : Members)
+    : Type 0 where
+  pub size : length values ≡ length before
+  pub last : (k : Text) (o : definition.Option Json) → condition_of cs k < 256
+      → StandsIf m d (get_or before (condition_of cs k) None) o
+      → StandsIf m d (get_or values (condition_of cs k) None) (last_from k o ms)
 
 -- the turn of the condition c: its place is taken from the values, and none is left for it
 pub record Turn (c : ℕ) (values left : List (Option ℕ)) (place : Option ℕ) : Type 0 where

@@ -16,11 +16,12 @@ const LIMIT: usize = 2048;
 // The length that marks an over-long path.
 const TOO_LONG: usize = LIMIT + 1;
 
-// A path under construction, by value. A length over the limit marks a path that was over-long: it has no text, and every method keeps it so.
+// A path under construction, by value. A length over the limit marks a path that was over-long: it has no text, and every
+// method keeps it so but `set` and `set_normalized`, which replace it.
 #[derive(Drop)]
 pub struct PathBuf {
-    pub bytes: [u8; LIMIT],
-    pub len: usize,
+    bytes: [u8; LIMIT],
+    len: usize,
 }
 
 // The first n bytes, or all where there are fewer.
@@ -31,6 +32,7 @@ pub fn first(b: &[u8], n: usize) -> &[u8]
 }
 
 // How many bytes of a path are its parent.
+#[tactic(auto, using(crate::proofs::Steps::parent_found, crate::proofs::Steps::parent_nothing))]
 fn parent_len(p: &[u8]) -> usize
     ensures { (result ≤ length p.now) × (parent p.now ≡ take result p.now) }
 {
@@ -45,19 +47,12 @@ pub fn parent(p: &[u8]) -> &[u8]
 }
 
 // The bytes behind the last slash.
+#[tactic(auto, using(crate::proofs::Steps::name_rest, crate::proofs::Steps::name_all))]
 pub fn name_of(p: &[u8]) -> &[u8]
     ensures { result.now ≡ name_of p.now }
 {
     let k = text::rfind(p, b'/');
     if k < p.len() { &p[k + 1..] } else { p }
-}
-
-// Byte 0 before "#" leaves the path.
-fn is_escape(s: &[u8], i: usize) -> bool
-    requires { i < length s.now }
-    ensures { result ≡ eqb (get_or s.now i 0) 0 && starts_with (text "#") (drop (i + 1) s.now) }
-{
-    s[i] == 0 && text::starts_with(&s[i + 1..], b"#")
 }
 
 // The steps. A method that has a loop is never compiled into its callers: they stay small.
@@ -99,6 +94,7 @@ impl PathBuf {
     }
 
     // To the parent.
+    #[tactic(auto, using(crate::proofs::Steps::up_parent))]
     fn up(&mut self)
         ensures { path_of self.new ≡ and_path (path_of self.old) (λ p. built (parent p)) }
     {
@@ -111,12 +107,9 @@ impl PathBuf {
     fn push_component(&mut self, part: &[u8])
         ensures { path_of self.new ≡ and_path (path_of self.old) (λ p. push_all (component part.now) p) }
     {
-        if part.is_empty() || text::equal(part, b".") {
-            return;
-        }
         if text::equal(part, b"..") {
             self.up();
-        } else {
+        } else if !part.is_empty() && !text::equal(part, b".") {
             self.join(part);
         }
     }
@@ -125,10 +118,8 @@ impl PathBuf {
     fn pops(&self) -> bool
         ensures { (p : List ℕ) → path_of self.now ≡ built p → result ≡ pops p }
     {
-        let Some(p) = self.as_slice() else {
-            return false;
-        };
-        !p.is_empty() && !text::equal(p, b"/")
+        self.as_slice()
+            .is_some_and(|p| !p.is_empty() && !text::equal(p, b"/"))
     }
 
     // The same, but ".." stays where nothing is left to pop.
@@ -178,6 +169,7 @@ impl PathBuf {
     }
 
     // Writes a byte taken for a character.
+    #[tactic(auto, using(crate::proofs::Widening::narrow, crate::proofs::Widening::wide))]
     fn widen(&mut self, c: u8)
         ensures { path_of self.new ≡ and_path (path_of self.old) (λ p. add_extension p (utf8 c)) }
     {
@@ -194,7 +186,8 @@ impl PathBuf {
         ensures { path_of self.new ≡ and_path (path_of self.old) (λ p. add_extension p (flat_map utf8 (unescape s.now))) }
     {
         for (i, b) in s.iter().enumerate() {
-            if !is_escape(s, i) {
+            // Byte 0 before "#" leaves the path.
+            if !text::starts_with(&s[i..], b"\0#") {
                 self.widen(*b);
             }
         }
@@ -203,6 +196,7 @@ impl PathBuf {
 
 // A method is small, so that the compiler puts it in place: then a chain of them copies no path.
 impl PathBuf {
+    #[tactic(auto, unfolding(crate::specs::Meaning::path_at))]
     pub fn new() -> PathBuf
         ensures { path_of result ≡ built [] }
     {
@@ -212,10 +206,26 @@ impl PathBuf {
         }
     }
 
-    pub fn from(text: &[u8]) -> PathBuf
-        ensures { path_of result ≡ limited text.now }
+    // Replaces the path by a text.
+    #[tactic(auto, unfolding(definition::specs::Path::add_extension, crate::specs::Meaning::path_at))]
+    pub fn set(&mut self, text: &[u8])
+        ensures { path_of self.new ≡ limited text.now }
     {
-        PathBuf::new().append(text)
+        self.len = 0;
+        self.put(text);
+    }
+
+    // Replaces the path by what `normalize_with` gives.
+    #[tactic(auto, using(crate::proofs::Parts::with_whole, crate::proofs::Parts::with_relative))]
+    pub fn set_normalized(&mut self, base: &[u8], subpath: &[u8])
+        ensures { path_of self.new ≡ normalize_with base.now subpath.now }
+    {
+        if is_whole(subpath) {
+            self.set(subpath);
+        } else {
+            self.set(base);
+            self.push_parts(subpath);
+        }
     }
 
     // `add_extension`
@@ -274,12 +284,14 @@ impl PathBuf {
     }
 
     // The text of a path; an over-long one has none.
+    #[tactic(auto, using(crate::proofs::Steps::text_or_long))]
     pub fn as_slice(&self) -> Option<&[u8]>
         ensures { MatchOption result (path_of self.now ≡ too_long) (λ t. path_of self.now ≡ built t.now) }
     {
         self.bytes.get(..self.len)
     }
 
+    #[tactic(auto, using(crate::proofs::Steps::over_is))]
     pub fn over_long(self) -> bool
         ensures { result ≡ is_too_long (path_of self) }
     {
@@ -287,7 +299,17 @@ impl PathBuf {
     }
 }
 
+impl From<&[u8]> for PathBuf {
+    ghost from_gives = { λ text path. path_of path ≡ limited text.now };
+
+    #[tactic(auto, unfolding(definition::specs::Path::add_extension))]
+    fn from(text: &[u8]) -> PathBuf {
+        PathBuf::new().append(text)
+    }
+}
+
 // A directory's manifest.
+#[tactic(auto, unfolding(definition::specs::Path::manifest_of))]
 pub fn manifest_path(dir: &[u8]) -> PathBuf
     ensures { path_of result ≡ and_path (limited dir.now) (λ p. limited (manifest_of p)) }
 {
@@ -308,6 +330,7 @@ pub fn add_name_and_extension(path: &[u8], name: &[u8], ext: &[u8]) -> PathBuf
 }
 
 // A subpath from a base, with "./" before it: "." is dropped, ".." pops, and an empty or absolute one is taken from the base too.
+#[tactic(auto, using(crate::proofs::Parts::with_dot))]
 pub fn normalize_below(base: &[u8], sub: &[u8]) -> PathBuf
     ensures { path_of result ≡ normalize_with base.now (text "./" ++ sub.now) }
 {
@@ -315,6 +338,7 @@ pub fn normalize_below(base: &[u8], sub: &[u8]) -> PathBuf
 }
 
 // Whether a subpath is empty or absolute.
+#[tactic(auto, using(crate::proofs::Steps::empty_is))]
 fn is_whole(sub: &[u8]) -> bool
     ensures { result ≡ equal sub.now [] || starts_with (text "/") sub.now }
 {
@@ -325,11 +349,9 @@ fn is_whole(sub: &[u8]) -> bool
 pub fn normalize_with(base: &[u8], sub: &[u8]) -> PathBuf
     ensures { path_of result ≡ normalize_with base.now sub.now }
 {
-    if is_whole(sub) {
-        PathBuf::from(sub)
-    } else {
-        PathBuf::from(base).push_all(sub)
-    }
+    let mut p = PathBuf::new();
+    p.set_normalized(base, sub);
+    p
 }
 
 // The "/" of an absolute path; nothing of any other.
@@ -354,6 +376,7 @@ pub fn normalize_relative(p: &[u8]) -> PathBuf
     PathBuf::from(head).push_relative(&p[head.len()..])
 }
 
+#[tactic(auto, using(crate::proofs::Parts::invalid_up, crate::proofs::Parts::invalid_name))]
 fn is_invalid_part(part: &[u8]) -> bool
     ensures { result ≡ any_invalid (component part.now) }
 {
@@ -364,10 +387,5 @@ fn is_invalid_part(part: &[u8]) -> bool
 pub fn is_invalid_exports_target(t: &[u8]) -> bool
     ensures { result ≡ is_invalid_exports_target t.now }
 {
-    for part in t.split(|b| *b == b'/') {
-        if is_invalid_part(part) {
-            return true;
-        }
-    }
-    false
+    t.split(|b| *b == b'/').any(is_invalid_part)
 }

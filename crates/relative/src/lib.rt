@@ -2,7 +2,7 @@
 
 #![tactic(auto)]
 
-ghost use Rattle.std.specs.Prelude.{◌≡◌, ◌||◌, ◌≤◌, length};
+ghost use Rattle.std.specs.Prelude.{◌≡◌, ◌||◌, length};
 ghost use Rattle.definition.specs.Text.{text, equal, ends_with};
 ghost use Rattle.definition.specs.Walk.{never};
 ghost use Rattle.definition.specs.Imports.{require_relative};
@@ -44,9 +44,8 @@ fn load_directory_or_none(
     x: &[u8],
     path: &[u8],
     tape: &mut Tape<'_>,
-    work: &mut [u8],
+    work: &mut [u8; 1024],
 ) -> ControlFlow<Ending>
-    requires { 1024 ≤ length work.old }
     ensures done { Done (seen_in job.entry) (never (directory_or_none (settings_in job.entry) x.now path.now)) (tape_of tape.old) (tape_of tape.new) (step_of result) }
     ensures same { Same tape.old tape.new }
 {
@@ -66,13 +65,9 @@ pub fn require_relative(
     ensures done { DoneUnless (seen_in job.entry) (never (require_relative (settings_in job.entry) dir.now x.now)) (tape_of tape.old) (room_in (length work.old)) (tape_of tape.new) (step_of result) }
     ensures same { Same tape.old tape.new }
 {
-    if work.len() < 1024 {
-        return ControlFlow::Break(consults::refuse(Refusal::WorkTooShort));
-    }
+    let work = consults::or_refuse(work.first_chunk_mut(), Refusal::WorkTooShort)?;
     let built = path::normalize_with(dir, x);
-    let Some(path) = built.as_slice() else {
-        return ControlFlow::Break(consults::refuse(Refusal::PathTooLong));
-    };
+    let path = consults::or_refuse(built.as_slice(), Refusal::PathTooLong)?;
     load_unless_folder(job, x, path, tape)?;
     load_directory_or_none(job, x, path, tape, work)
 }

@@ -247,9 +247,9 @@ fn texts(rt: &impl Print) -> io::Result<()> {
 // The texts of a kind on one line.
 fn print_texts(rt: &impl Print, name: &str, s: &[u8], kind: Kind) -> io::Result<()> {
     print!(rt; "{name}:")?;
-    for i in 0..settings::count(s, kind) {
+    for text in settings::texts(s, kind) {
         print!(rt; " ")?;
-        io::writer(rt).write_all(settings::text(s, kind, i))?;
+        io::writer(rt).write_all(text)?;
     }
     println!(rt)
 }

@@ -1,48 +1,151 @@
--- The loop that seeks the fragment and marks an escaped "#". Assumes nothing.
+-- Where the fragment begins, and whether a "#" before it is escaped. Assumes nothing.
 use mathlib.Core.Path.{◌≡◌, refl, sym, ◌∙◌, ap}
-use Prim.Native.Nat.{ℕ, suc, min, max, ◌+◌, ◌≤◌, ◌<◌}
-use mathlib.Core.Bool.{Bool, true, false, not, ◌&&◌, ◌||◌, and-false, or-true, or-false, or_assoc}
+use Prim.Native.Nat.compare
+use Prim.Native.Nat.{ℕ, zero, suc, ◌+◌, ◌-◌, ◌≤◌, ◌<◌}
+use mathlib.Core.Bool.{Bool, true, false, not, ◌&&◌, and-false}
 use mathlib.Core.List.{List, [], ◌∷◌}
 use native.Mathlib.Omega.{arith}
 use native.Mathlib.Numerals.{add-one}
-use borrow.Author.Tests.{eq-eqb, ne_eqb}
-use lib.Dec.{eqb}
-use lib.ListN.{length, drop, get_or, drop_of_length-le}
-use lib.Seq.{drop-cons}
+use borrow.Author.Tests.{eq-eqb, ne_eqb, eqb-true, eqb-false, lt-ltb}
+use lib.Dec.{eqb, ltb}
+use lib.ListN.{length, drop, get_or}
 use Rattle.std.specs.Prelude.{if◌then◌else◌}
-use Rattle.definition.specs.Text.{hash, starts_with, contains_text}
+use Rattle.definition.specs.Text.{hash, starts_with, contains_text, before}
 use Rattle.definition.specs.Specifier.{before_fragment, body}
-use Rattle.specifier.specs.Meaning.{Scanned}
+use Rattle.laws.specs.TextLaws.{and_true}
+use Rattle.laws.specs.TextSteps.{before_inside}
+use Rattle.specifier.specs.Meaning.{IsFirstHash}
 
-abbrev escape : List ℕ
+-- a "#" that p, or another byte than 0, stands before: the first one is at a place, or there is none up to the end
+begins : (p : ℕ) (s : List ℕ) (i : ℕ) → i ≤ length s
+    → (i < length s → (get_or s i 0 ≡ hash) × (get_or (p ∷ s) i 0 ≡ 0 → ⊥))
+    → ((k : ℕ) → k < i → get_or s k 0 ≡ hash → (get_or (p ∷ s) k 0 ≡ 0 → ⊥) → ⊥) → i ≡ length (before_fragment p s)
+unfolding before_fragment
+begins p [] i l f h = omega arith
+begins p (b ∷ s) zero l f h = let g = f (omega arith) in rw (eq-eqb b hash g.0, ne_eqb p 0 g.1)
+begins p (b ∷ s) (suc i) l f h =
+    go (eqb b hash && not (eqb p 0)) refl
+    (begins b s i (omega arith) (λ m. f (omega arith)) (λ k m. h (suc k) (omega arith)))
+  where
+    go : (t : Bool) → eqb b hash && not (eqb p 0) ≡ t → i ≡ length (before_fragment b s)
+        → suc i ≡ length (if t then [] else b ∷ before_fragment b s)
+    go true e r = let g = and_true (eqb b hash) _ e in
+        absurd (h 0 (omega arith) (eqb-true b hash g.0) (λ z. eqb-false p 0 (not-is (eqb p 0) g.1) z))
+      where
+        not-is : (t : Bool) → not t ≡ true → t ≡ false
+        not-is true e = cc
+        not-is false e = refl
+    go false e r = ap suc r
+
+pub body_none : (s : List ℕ) → ((k : ℕ) → k + 2 ≤ length s → get_or s (k + 1) 0 ≡ hash → (get_or s k 0 ≡ 0 → ⊥) → ⊥)
+    → length s ≡ length (body s)
+unfolding body
+body_none [] h = refl
+body_none (b ∷ s) h =
+    ap suc (begins b s (length s) (omega arith) (λ l. absurd (omega arith)) (λ k l e. h k (omega arith) (rw add-one e)))
+
+pub body_found : (s : List ℕ) (i : ℕ) → i + 2 ≤ length s → get_or s (i + 1) 0 ≡ hash → (get_or s i 0 ≡ 0 → ⊥)
+    → ((k : ℕ) → k < i → get_or s (k + 1) 0 ≡ hash → (get_or s k 0 ≡ 0 → ⊥) → ⊥) → i + 1 ≡ length (body s)
+unfolding body
+body_found [] i l e n h = absurd (let z : ⊥ = omega arith in z)
+body_found (b ∷ s) i l e n h =
+    let g = begins b s i (omega arith) (λ m. (rw add-one at e, n)) (λ k m z. h k m (rw add-one z)) in omega arith
+
+-- the first "#", and what is before the fragment: up to that "#", or with an escaped one beyond it
+first_stops : (p : ℕ) (s : List ℕ)
+    → (length (before hash s) < length s → get_or (p ∷ s) (length (before hash s)) 0 ≡ 0 → ⊥)
+    → length (before hash s) ≡ length (before_fragment p s)
+unfolding before before_fragment
+first_stops p [] h = refl
+first_stops p (b ∷ s) h = go (eqb b hash) h (first_stops b s)
+  where
+    go : (t : Bool)
+        → (length (if t then [] else b ∷ before hash s) < suc (length s)
+        → get_or (p ∷ b ∷ s) (length (if t then [] else b ∷ before hash s)) 0 ≡ 0 → ⊥)
+        → ((length (before hash s) < length s → get_or (b ∷ s) (length (before hash s)) 0 ≡ 0 → ⊥)
+        → length (before hash s) ≡ length (before_fragment b s))
+        → length (if t then [] else b ∷ before hash s)
+        ≡ length (if t && not (eqb p 0) then [] else b ∷ before_fragment b s)
+    go true h r = rw (ne_eqb p 0 (h (omega arith)))
+    go false h r = ap suc (r (λ l. h (omega arith)))
+
+first_goes : (p : ℕ) (s : List ℕ) → length (before hash s) < length s → get_or (p ∷ s) (length (before hash s)) 0 ≡ 0
+    → length (before hash s) + length (body (drop (length (before hash s)) s)) ≡ length (before_fragment p s)
+unfolding before before_fragment body
+first_goes p [] l e = absurd (let z : ⊥ = omega arith in z)
+first_goes p (b ∷ s) l e = go (eqb b hash) l e (first_goes b s)
+  where
+    go : (t : Bool) → length (if t then [] else b ∷ before hash s) < suc (length s)
+        → get_or (p ∷ b ∷ s) (length (if t then [] else b ∷ before hash s)) 0 ≡ 0
+        → (length (before hash s) < length s → get_or (b ∷ s) (length (before hash s)) 0 ≡ 0
+        → length (before hash s) + length (body (drop (length (before hash s)) s)) ≡ length (before_fragment b s))
+        → length (if t then [] else b ∷ before hash s)
+        + length (body (drop (length (if t then [] else b ∷ before hash s)) (b ∷ s)))
+        ≡ length (if t && not (eqb p 0) then [] else b ∷ before_fragment b s)
+    go true l e r = rw (eq-eqb p 0 e) (omega arith)
+    go false l e r = let g = r (omega arith) e in omega arith
+
+abbrev pub escape : List ℕ
 escape = 0 ∷ hash ∷ []
 
--- at the place i, with the byte p before it: what is left of the body, and whether an escape was passed or is to come
-pub record Scan (s : List ℕ) (p : ℕ) (escaped : Bool) (i : ℕ) : Type 0 where
-  pub place : i + length (before_fragment p (drop i s)) ≡ max 1 (length (body s))
-  pub mark : escaped || contains_text escape (p ∷ before_fragment p (drop i s)) ≡ contains_text escape (body s)
+further : (m n : ℕ) → ltb (suc m) (suc n) ≡ ltb m n
+further m n = rw (compare.suc-suc (suc m) n)
 
-alone : (p : ℕ) → contains_text escape (p ∷ []) ≡ false
-unfolding contains_text starts_with
-alone p = rw (and-false (eqb 0 p))
+first_marks : (p : ℕ) (s : List ℕ)
+    → ltb (length (before hash s)) (length (before_fragment p s)) ≡ contains_text escape (p ∷ before_fragment p s)
+unfolding before before_fragment contains_text starts_with
+first_marks p [] = rw (and-false (eqb 0 p))
+first_marks p (b ∷ s) = go (eqb b hash) refl (first_marks b s)
+  where
+    go : (t : Bool) → eqb b hash ≡ t
+        → ltb (length (before hash s)) (length (before_fragment b s)) ≡ contains_text escape (b ∷ before_fragment b s)
+        → ltb (length (if t then [] else b ∷ before hash s))
+        (length (if t && not (eqb p 0) then [] else b ∷ before_fragment b s))
+        ≡ contains_text escape (p ∷ (if t && not (eqb p 0) then [] else b ∷ before_fragment b s))
+    go true e r = by (eqb p 0) refl
+      where
+        by : (u : Bool) → eqb p 0 ≡ u
+            → ltb 0 (length (if not u then [] else b ∷ before_fragment b s))
+            ≡ contains_text escape (p ∷ (if not u then [] else b ∷ before_fragment b s))
+        by true f = rw (eq-eqb 0 p (sym (eqb-true p 0 f)), eq-eqb hash b (sym (eqb-true b hash e)))
+            (lt-ltb 0 (suc (length (before_fragment b s))) (omega arith))
+        by false f = rw (and-false (eqb 0 p))
+    go false e r = rw (ne_eqb hash b (λ z. eqb-false b hash e (sym z)), and-false (eqb 0 p)) (further _ _ ∙ r)
 
-pub scan_begin : (s : List ℕ) → Scan s (get_or s 0 0) false 1
-unfolding body before_fragment
-scan_begin [] = record { place = omega arith; mark = alone 0 ∙ (unfold contains_text starts_with in refl) }
-scan_begin (b ∷ s) = record { place = omega arith; mark = refl }
+module _ (b : ℕ) (s : List ℕ) (i : ℕ) (g : IsFirstHash (b ∷ s) i) where
+  place : i ≡ suc (length (before hash s))
+  place = omega (arith, before_inside hash s)
 
--- the body is empty only where the text is, and it is no longer
-body_some : (s : List ℕ) → min 1 (length s) ≤ length (body s)
+pub fragment_first : (s : List ℕ) (i : ℕ) → IsFirstHash s i → (i < length s → get_or s (i - 1) 0 ≡ 0 → ⊥)
+    → i ≡ length (body s)
 unfolding body
-body_some [] = omega arith
-body_some (b ∷ s) = omega arith
+fragment_first [] i g h = omega arith
+fragment_first (b ∷ s) i g h =
+    let e = place b s i g in
+    let m : i - 1 ≡ length (before hash s) = omega arith in
+    e ∙ ap suc (first_stops b s (λ l z. h (omega arith) (rw m z)))
 
+pub fragment_later : (s : List ℕ) (i : ℕ) → IsFirstHash s i → i < length s → get_or s (i - 1) 0 ≡ 0
+    → i + length (body (drop i s)) ≡ length (body s)
+fragment_later [] i g l z = absurd (let z : ⊥ = omega arith in z)
+fragment_later (b ∷ s) i g l z =
+    let e = place b s i g in
+    let m : i - 1 ≡ length (before hash s) = omega arith in
+    let f = first_goes b s (omega arith) (rw m at z) in
+    rw e (unfold body in omega arith)
+
+pub escaped_is : (s : List ℕ) (i : ℕ) → IsFirstHash s i → ltb i (length (body s)) ≡ contains_text escape (body s)
+escaped_is [] i g = let e : i ≡ 0 = omega arith in rw e (unfold body contains_text starts_with in refl)
+escaped_is (b ∷ s) i g = rw (place b s i g) (unfold body in further _ _ ∙ first_marks b s)
+
+-- what is before the fragment is a part of the specifier
 fragment_inside : (p : ℕ) (s : List ℕ) → length (before_fragment p s) ≤ length s
 unfolding before_fragment
 fragment_inside p [] = omega arith
 fragment_inside p (b ∷ s) = go (eqb b hash && not (eqb p 0)) (fragment_inside b s)
   where
-    go : (t : Bool) → length (before_fragment b s) ≤ length s → length (if t then [] else b ∷ before_fragment b s) ≤ suc (length s)
+    go : (t : Bool) → length (before_fragment b s) ≤ length s
+        → length (if t then [] else b ∷ before_fragment b s) ≤ suc (length s)
     go true h = omega arith
     go false h = omega arith
 
@@ -50,49 +153,3 @@ pub body_inside : (s : List ℕ) → length (body s) ≤ length s
 unfolding body
 body_inside [] = omega arith
 body_inside (b ∷ s) = omega (arith, fragment_inside b s)
-
-module _ {s : List ℕ} {p i : ℕ} {escaped : Bool} (g : Scan s p escaped i) where
-  stop : (n : ℕ) → before_fragment p (drop i s) ≡ [] → n ≡ length (body s) → Scanned s n escaped
-  stop n e f =
-      record {
-        place = f;
-        mark = sym (or-false escaped) ∙ ap (λ b. escaped || b) (sym (alone p)) ∙ rw e at g.mark;
-      }
-
-  pub scan_end : length s ≤ i → Scanned s (length s) escaped
-  unfolding before_fragment
-  scan_end h =
-      let e : before_fragment p (drop i s) ≡ [] = rw (drop_of_length-le s h) in
-      let k = body_inside s in
-      let f : i + 0 ≡ max 1 (length (body s)) = rw e at g.place in
-      stop (length s) e (omega (arith, body_some s))
-
-  module _ (h : i < length s) where
-    pub scan_fragment : get_or s i 0 ≡ 35 → (p ≡ 0 → ⊥) → Scanned s i escaped
-    unfolding before_fragment
-    scan_fragment e n =
-        let z : before_fragment p (drop i s) ≡ [] = rw (drop-cons s i 0 h) (simp (eq-eqb _ _ e, ne_eqb _ _ n)) in
-        let f : i + 0 ≡ max 1 (length (body s)) = rw z at g.place in
-        stop i z (omega (arith, body_some s))
-
-    more : eqb (get_or s i 0) hash && not (eqb p 0) ≡ false → before_fragment p (drop i s) ≡ get_or s i 0 ∷ before_fragment (get_or s i 0) (drop (i + 1) s)
-    unfolding before_fragment
-    more e = rw (add-one i, drop-cons s i 0 h) (rw e)
-
-    on : (e : Bool) → eqb (get_or s i 0) hash && not (eqb p 0) ≡ false → escaped || starts_with escape (p ∷ get_or s i 0 ∷ before_fragment (get_or s i 0) (drop (i + 1) s)) ≡ e → Scan s (get_or s i 0) e (i + 1)
-    unfolding contains_text
-    on e m t =
-        let x = get_or s i 0 in
-        let rest = before_fragment x (drop (i + 1) s) in
-        record {
-          place = omega (arith, rw (more m) at g.place);
-          mark = ap (λ b. b || contains_text escape (x ∷ rest)) (sym t) ∙ or_assoc escaped (starts_with escape (p ∷ x ∷ rest)) (contains_text escape (x ∷ rest)) ∙ rw (more m) at g.mark;
-        }
-
-    pub scan_escape : get_or s i 0 ≡ 35 → p ≡ 0 → Scan s (get_or s i 0) true (i + 1)
-    unfolding starts_with
-    scan_escape e z = on true (simp (eq-eqb _ _ e, eq-eqb _ _ z)) (simp (eq-eqb _ _ (sym e), eq-eqb _ _ (sym z)) (or-true escaped))
-
-    pub scan_other : (get_or s i 0 ≡ 35 → ⊥) → Scan s (get_or s i 0) escaped (i + 1)
-    unfolding starts_with
-    scan_other n = on escaped (simp (ne_eqb _ _ n)) (simp (ne_eqb hash (get_or s i 0) (λ z. n (sym z)), and-false, or-false))

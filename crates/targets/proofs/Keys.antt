@@ -33,7 +33,8 @@ module _ (c : ℕ) (s : List ℕ) where
       go true f = refl
       go false f = absurd (let z = eqb-true (length (before c s)) (length s) (sym f) in omega arith)
 
-  pub has_not : (r : ℕ) → r ≡ 0 + length (before c (drop 0 s)) → length s ≤ r → length (before c s) ≤ length s → contains c s ≡ false
+  pub has_not : (r : ℕ) → r ≡ 0 + length (before c (drop 0 s)) → length s ≤ r → length (before c s) ≤ length s
+      → contains c s ≡ false
   has_not r e h b = go (contains c s) (not_contains c s)
     where
       go : (t : Bool) → not t ≡ eqb (length (before c s)) (length s) → t ≡ false
@@ -81,7 +82,11 @@ module _ (m n : ℕ) where
       go native.Ordering.gt e = absurd (omega (arith, leb-false m n (ap is_le e)))
 
 -- the empty key follows the rule of the others
-by_rank : (k l : List ℕ) → PATTERN_KEY_COMPARE k l ≡ greater_first (compare (base_length k) (base_length l)) (if not (contains star k) then native.Ordering.gt else if not (contains star l) then native.Ordering.lt else greater_first (compare (length k) (length l)) native.Ordering.eq)
+by_rank : (k l : List ℕ)
+    → PATTERN_KEY_COMPARE k l
+    ≡ greater_first (compare (base_length k) (base_length l))
+    (if not (contains star k) then native.Ordering.gt else if not (contains star l) then native.Ordering.lt
+    else greater_first (compare (length k) (length l)) native.Ordering.eq)
 unfolding PATTERN_KEY_COMPARE greater_first contains base_length
 by_rank [] l = go (base_length l)
   where
@@ -96,7 +101,8 @@ turned m n Less e = compare_greater m n (ranked n m Less e)
 turned m n Equal e = compare_same m n (sym (ranked n m Equal e))
 turned m n Greater e = compare_less m n (ranked n m Greater e)
 
-decided : (o : Ordering) → (o ≡ Equal → ⊥) → (r : native.Ordering) → greater_first (order_of (ordering_reverse o)) r ≡ order_of o
+decided : (o : Ordering) → (o ≡ Equal → ⊥) → (r : native.Ordering)
+    → greater_first (order_of (ordering_reverse o)) r ≡ order_of o
 unfolding greater_first
 decided Less n r = refl
 decided Equal n r = absurd (n refl)
@@ -112,7 +118,8 @@ module _ (a b : Rank) (k l : List ℕ) (e : a ≡ rank_of k) (f : b ≡ rank_of 
   star_is : (contains star k ≡ a.starred) × (contains star l ≡ b.starred)
   star_is = (sym (ap (λ r. r.starred) e), sym (ap (λ r. r.starred) f))
 
-  base_turned : (o : Ordering) → o ≡ nat_cmp b.base a.base → compare (base_length k) (base_length l) ≡ order_of (ordering_reverse o)
+  base_turned : (o : Ordering) → o ≡ nat_cmp b.base a.base
+      → compare (base_length k) (base_length l) ≡ order_of (ordering_reverse o)
   base_turned o h = turned (base_length k) (base_length l) o (h ∙ rw (e, f))
 
   pub by_base : (o : Ordering) → o ≡ nat_cmp b.base a.base → (o ≡ Equal → ⊥) → order_of o ≡ PATTERN_KEY_COMPARE k l
@@ -130,7 +137,10 @@ module _ (a b : Rank) (k l : List ℕ) (e : a ≡ rank_of k) (f : b ≡ rank_of 
 
       pub by_size : b.starred ≡ true → (o : Ordering) → o ≡ nat_cmp b.len a.len → order_of o ≡ PATTERN_KEY_COMPARE k l
       unfolding greater_first
-      by_size s o i = sym (by_rank k l ∙ rw (base_turned Equal h, star_is.0 ∙ n, star_is.1 ∙ s, turned (length k) (length l) o (i ∙ rw (e, f))) (last_decides o))
+      by_size s o i =
+          sym (by_rank k l
+          ∙ rw (base_turned Equal h, star_is.0 ∙ n, star_is.1 ∙ s, turned (length k) (length l) o (i ∙ rw (e, f)))
+          (last_decides o))
 
 -- what a key matches
 module _ (mk key trailer : List ℕ) where
@@ -142,46 +152,48 @@ module _ (mk key trailer : List ℕ) where
         go [] h = absurd (h refl)
         go (b ∷ t) h = unfold equal in refl
 
-    pub fits_short : length mk < length key → false ≡ (equal trailer [] || (leb (length key) (length mk) && ends_with trailer mk))
+    pub fits_short : length mk < length key
+        → false ≡ (equal trailer [] || (leb (length key) (length mk) && ends_with trailer mk))
     fits_short h = rw (not_empty, lt-leb (length key) (length mk) h)
 
-    pub fits_end : length key ≤ length mk → ends_with trailer mk ≡ (equal trailer [] || (leb (length key) (length mk) && ends_with trailer mk))
+    pub fits_end : length key ≤ length mk
+        → ends_with trailer mk ≡ (equal trailer [] || (leb (length key) (length mk) && ends_with trailer mk))
     fits_end h = rw (not_empty, le-leb (length key) (length mk) h)
 
   module _ (base : List ℕ) where
     -- there is room for both parts
-    pub room : length key ≡ suc (length base + length trailer) → starts_with base mk ≡ true → (b : Bool) → b ≡ (equal trailer [] || (leb (length key) (length mk) && ends_with trailer mk)) → b ≡ true → length trailer ≤ length mk - length base
+    pub room : length key ≡ suc (length base + length trailer) → starts_with base mk ≡ true → (b : Bool)
+        → b ≡ (equal trailer [] || (leb (length key) (length mk) && ends_with trailer mk)) → b ≡ true
+        → length trailer ≤ length mk - length base
     room s h b f e = go trailer s (sym f ∙ e)
       where
-        go : (t : List ℕ) → length key ≡ suc (length base + length t) → (equal t [] || (leb (length key) (length mk) && ends_with t mk)) ≡ true → length t ≤ length mk - length base
+        go : (t : List ℕ) → length key ≡ suc (length base + length t)
+            → (equal t [] || (leb (length key) (length mk) && ends_with t mk)) ≡ true
+            → length t ≤ length mk - length base
         go [] s e = omega (arith, starts_with_length base mk h)
-        go (c ∷ t) s e = let f : leb (length key) (length mk) && ends_with (c ∷ t) mk ≡ true = unfold equal in e in omega (arith, leb-true (length key) (length mk) (and_true _ _ f).0)
+        go (c ∷ t) s e = let f : leb (length key) (length mk) && ends_with (c ∷ t) mk ≡ true = unfold equal in e in
+            omega (arith, leb-true (length key) (length mk) (and_true _ _ f).0)
 
-module _ (mk key : List ℕ) where
-  module _ (h : is_subpath_key key ≡ true) where
-    pub match_star : contains star key ≡ true → star_match mk key (before star key) (after star key) ≡ pattern_match mk key
-    unfolding pattern_match
-    match_star g = rw (h, g)
+module _ (mk key : List ℕ) (h : is_subpath_key key ≡ true) where
+  pub match_star : contains star key ≡ true
+      → star_match mk key (before star key) (after star key) ≡ pattern_match mk key
+  unfolding pattern_match
+  match_star g = rw (h, g)
 
-    module _ (g : contains star key ≡ false) where
-      pub match_file : ends_with (text "/") key ≡ false → none ≡ pattern_match mk key
-      unfolding pattern_match
-      match_file e = rw (h, g, e)
-
-      module _ (e : ends_with (text "/") key ≡ true) where
-        pub match_elsewhere : starts_with key mk ≡ false → none ≡ pattern_match mk key
-        unfolding pattern_match
-        match_elsewhere f = rw (h, g, e, f)
-
-        pub match_folder : starts_with key mk ≡ true → some (take (length mk - length key) (drop (length key) mk)) ≡ pattern_match mk key
-        unfolding pattern_match
-        match_folder f = rw (h, g, e, f) (ap some (take_all (length mk - length key) (drop (length key) mk) (omega (arith, length-drop (length key) mk))))
+  pub match_folder : contains star key ≡ false
+      → (if ends_with (text "/") key && starts_with key mk then some (drop (length key) mk) else none)
+      ≡ pattern_match mk key
+  unfolding pattern_match
+  match_folder g = rw (h, g)
 
 -- the slices before and behind the first star
 module _ (key : List ℕ) (r : ℕ) (e : r ≡ 0 + length (before star (drop 0 key))) (h : contains star key ≡ true) where
   pub base_part : take r key ≡ before star key
-  base_part = let n : r ≡ length (before star key) = omega arith in rw n (ap (take (length (before star key))) (before_after star key h) ∙ take-append_seam (before star key) (star ∷ after star key))
+  base_part = let n : r ≡ length (before star key) = omega arith in
+      rw n (ap (take (length (before star key))) (before_after star key h)
+      ∙ take-append_seam (before star key) (star ∷ after star key))
 
   pub trailer_part : take (length key - (r + 1)) (drop (r + 1) key) ≡ after star key
   unfolding after
-  trailer_part = let n : r + 1 ≡ suc (length (before star key)) = omega arith in take_all (length key - (r + 1)) (drop (r + 1) key) (omega (arith, length-drop (r + 1) key)) ∙ rw n
+  trailer_part = let n : r + 1 ≡ suc (length (before star key)) = omega arith in
+      take_all (length key - (r + 1)) (drop (r + 1) key) (omega (arith, length-drop (r + 1) key)) ∙ rw n

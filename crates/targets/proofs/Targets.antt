@@ -2,57 +2,39 @@
 use mathlib.Core.Path.{◌≡◌, refl, sym, ◌∙◌, ap}
 use mathlib.Core.Bool.{Bool, true, false}
 use mathlib.Core.List.{List, ◌++◌}
-use Prim.Native.Nat.{ℕ, ◌+◌, ◌<◌, ◌≤◌}
+use Prim.Native.Nat.{ℕ, ◌<◌, ◌≤◌}
 use native.Mathlib.Omega.{arith}
 use lib.ListN.{length, take, length-take}
 use lib.Dec.{leb}
 use borrow.Author.Tests.{leb-true, leb-false, lt-ltb, le-ltb}
-use Rattle.definition.specs.Text.{text, star, contains, ends_with, replace, overwrite}
+use Rattle.definition.specs.Text.{text, star, contains, ends_with, replace}
 use Rattle.definition.specs.Path.{Built, built, too_long, and_path, limited, add_extension, normalize_with, is_invalid_exports_target}
 use Rattle.laws.specs.PathLaws.{limited_fits, limited_long as limited-over, limited_append}
 use Rattle.definition.specs.Exports.{Request, found, overlong, target, directory_error, target_path, invalid_target, outcome_of, normalize_string_target}
 use Rattle.path.specs.Meaning.{path_at}
-use Rattle.path.proofs.Steps.{at_fits, at_long, put_fits}
-use Rattle.targets.specs.declared.Context.{Context}
+use Rattle.path.proofs.Steps.{at_fits, at_long}
 use Rattle.targets.specs.declared.Form.TheVariants.{Plain, Starred, Folder}
-use Rattle.targets.specs.declared.Outcome.{Outcome}
 use Rattle.targets.specs.declared.Outcome.TheVariants.{InvalidTarget, ConfigDirectory}
-use Rattle.targets.specs.declared.Answer.{Answer}
 use Rattle.targets.specs.declared.Wanted.{Wanted}
-use Rattle.targets.specs.Answers.{outcome_in, answer_of, resolved, Formed, Asked}
+use Rattle.targets.specs.Answers.{outcome_in, text_in, Formed, Asked}
 
 clash : {P : Type 0} {x : List ℕ} → built x ≡ too_long → P
 clash e = absurd (let z : ◌≡◌ {A = ℕ} 0 1 = cc in omega arith)
 
--- an answer without a path
-module _ (m : List ℕ) (q : Request) (path : List ℕ) (r : Answer) (c : Context) (o : Outcome) where
-  pub outcome_is : {n : ℕ} → (r.context ≡ c) × (r.outcome ≡ o) × (r.len ≡ n) → answer_of m q path r ≡ resolved m c (outcome_in q.package_url q.key q.matched o (take r.len path))
-  outcome_is e =
-      ap (λ x. resolved m x (outcome_in q.package_url q.key q.matched r.outcome (take r.len path))) e.0
-      ∙ ap (λ x. resolved m c (outcome_in q.package_url q.key q.matched x (take r.len path))) e.1
-
 -- a text under the limit
-limited_text : (t u : List ℕ) → limited t ≡ built u → u ≡ t
+pub limited_text : (t u : List ℕ) → limited t ≡ built u → u ≡ t
 limited_text t u e = go (leb (length t) 2048) refl
   where
     go : (b : Bool) → leb (length t) 2048 ≡ b → u ≡ t
     go true h = let f = limited_fits t (leb-true _ _ h) in cc
     go false h = let f = limited-over t (leb-false _ _ h) in clash (sym e ∙ f)
 
-limited_long : (t : List ℕ) → limited t ≡ too_long → 2048 < length t
+pub limited_long : (t : List ℕ) → limited t ≡ too_long → 2048 < length t
 limited_long t e = go (leb (length t) 2048) refl
   where
     go : (b : Bool) → leb (length t) 2048 ≡ b → 2048 < length t
     go true h = clash (sym (limited_fits t (leb-true _ _ h)) ∙ e)
     go false h = leb-false _ _ h
-
--- a path of at most 2,048 bytes has its text
-module _ (b : List ℕ) (n : ℕ) (x : Built) (e : path_at b n ≡ x) where
-  text_of : n ≤ 2048 → x ≡ built (take n b)
-  text_of h = sym e ∙ at_fits b n h
-
-  no_text : 2048 < n → x ≡ too_long
-  no_text h = sym e ∙ at_long b n h
 
 pub built_short : (b : List ℕ) (n : ℕ) (t : List ℕ) → path_at b n ≡ built t → length t ≤ 2048
 built_short b n t e = go (leb n 2048) refl
@@ -68,28 +50,9 @@ built_short b n t e = go (leb n 2048) refl
 pub limited_same : (t u : List ℕ) → limited t ≡ limited u → length u ≤ 2048 → t ≡ u
 limited_same t u e l = sym (limited_text t u (e ∙ limited_fits u l))
 
-pub path_text_lem : (b : List ℕ) (n : ℕ) (t : List ℕ) → path_at b n ≡ limited t → length t ≤ 2048 → take n b ≡ t
-path_text_lem b n t e l = go (leb n 2048) refl
-  where
-    go : (u : Bool) → leb n 2048 ≡ u → take n b ≡ t
-    go true h = limited_text t (take n b) (text_of b n (limited t) e (leb-true _ _ h))
-    go false h = clash (sym (limited_fits t l) ∙ no_text b n (limited t) e (leb-false _ _ h))
-
--- a text copied to the start of a buffer
-pub copied : (b t : List ℕ) → length b ≡ 2048 → path_at (overwrite 0 t b) (length t) ≡ limited t
-unfolding add_extension
-copied b t w = go (leb (length t) 2048) refl
-  where
-    go : (u : Bool) → leb (length t) 2048 ≡ u → path_at (overwrite 0 t b) (length t) ≡ limited t
-    go true h =
-        let z : 0 + length t ≡ length t = omega arith in
-        rw z at (put_fits b 0 t w (omega arith) (rw z (leb-true _ _ h))) ∙ rw (at_fits b 0 (omega arith))
-    go false h = at_long (overwrite 0 t b) (length t) (leb-false _ _ h) ∙ sym (limited-over t (leb-false _ _ h))
-
--- an answer with a path
-pub path_put : (m : List ℕ) (q : Request) (path : List ℕ) (r : Answer) (c : Context) (o : Outcome) (t : List ℕ) → (r.context ≡ c) × (r.outcome ≡ o) × (path_at path r.len ≡ limited t) → length t ≤ 2048 → answer_of m q path r ≡ resolved m c (outcome_in q.package_url q.key q.matched o t)
-path_put m q path r c o t e l =
-    outcome_is m q path r c o (e.0, e.1, refl) ∙ ap (λ x. resolved m c (outcome_in q.package_url q.key q.matched o x)) (path_text_lem path r.len t e.2 l)
+-- a text under the limit is the text of its path
+pub text_put : (x : Built) (t : List ℕ) → x ≡ limited t → length t ≤ 2048 → text_in x ≡ t
+text_put x t e l = rw (e, limited_fits t l)
 
 -- a target
 module _ (q : Request) (t : List ℕ) where
@@ -102,11 +65,13 @@ module _ (q : Request) (t : List ℕ) where
     unfolding target_path
     invalid_is i = rw (le-ltb 2048 (length t) h, i)
 
-    pub target_invalid : is_invalid_exports_target t ≡ true → outcome_in q.package_url q.key q.matched InvalidTarget t ≡ target_path q (target t)
+    pub target_invalid : is_invalid_exports_target t ≡ true
+        → outcome_in q.package_url q.key q.matched InvalidTarget t ≡ target_path q (target t)
     unfolding invalid_target
     target_invalid i = invalid_is i
 
-    module _ (i : is_invalid_exports_target t ≡ false) (url : List ℕ) (u : q.package_url ≡ url) (p : Built) (e : p ≡ normalize_with url t) where
+    module _ (i : is_invalid_exports_target t ≡ false) (url : List ℕ) (u : q.package_url ≡ url) (p : Built)
+        (e : p ≡ normalize_with url t) where
       path_is : outcome_of (normalize_with url t) ≡ target_path q (target t)
       unfolding target_path
       path_is = rw (le-ltb 2048 (length t) h, i, u)
@@ -137,7 +102,8 @@ module _ {q : Request} {w : Wanted} (a : Asked q w) (t : List ℕ) where
   unfolding normalize_string_target
   plain_target e = rw (rw e at a.formed)
 
-  pub starred_target : w.form ≡ Starred → target (replace star w.pattern.now t) ≡ normalize_string_target q.key t q.matched
+  pub starred_target : w.form ≡ Starred
+      → target (replace star w.pattern.now t) ≡ normalize_string_target q.key t q.matched
   unfolding normalize_string_target
   starred_target e = let f : Formed q Starred w.pattern.now = rw e at a.formed in rw (f.0, f.1)
 
@@ -145,12 +111,14 @@ module _ {q : Request} {w : Wanted} (a : Asked q w) (t : List ℕ) where
     folder : Formed q Folder w.pattern.now
     folder = rw e at a.formed
 
-    pub folder_star : contains star t ≡ true → target (replace star w.pattern.now t) ≡ normalize_string_target q.key t q.matched
+    pub folder_star : contains star t ≡ true
+        → target (replace star w.pattern.now t) ≡ normalize_string_target q.key t q.matched
     unfolding normalize_string_target
     folder_star h = rw (folder.0, folder.1, h)
 
     module _ (h : contains star t ≡ false) where
-      pub folder_both : ends_with (text "/") t ≡ true → target (t ++ w.pattern.now) ≡ normalize_string_target q.key t q.matched
+      pub folder_both : ends_with (text "/") t ≡ true
+          → target (t ++ w.pattern.now) ≡ normalize_string_target q.key t q.matched
       unfolding normalize_string_target
       folder_both g = rw (folder.0, folder.1, folder.2, h, g)
 
@@ -158,6 +126,7 @@ module _ {q : Request} {w : Wanted} (a : Asked q w) (t : List ℕ) where
       unfolding normalize_string_target
       folder_error g = rw (folder.0, folder.1, folder.2, h, g)
 
-pub directory_is : (q : Request) (t : List ℕ) → outcome_in q.package_url q.key q.matched ConfigDirectory t ≡ target_path q directory_error
+pub directory_is : (q : Request) (t : List ℕ)
+    → outcome_in q.package_url q.key q.matched ConfigDirectory t ≡ target_path q directory_error
 unfolding target_path
 directory_is q t = refl

@@ -1,10 +1,12 @@
 -- What the answers of a resolution mean.
-use Rattle.std.specs.Prelude.{◌≡◌, ℕ, true, false, List, take, if◌then◌else◌}
+use Rattle.std.specs.Prelude.{◌≡◌, ℕ, true, false, List, [], if◌then◌else◌}
 use Rattle.std.proofs.Math.Option.{Option, none, some}
 use Rattle.definition.specs.Text.{text, star, contains, starts_with, ends_with}
-use Rattle.definition.specs.Path.{manifest_of}
+use Rattle.definition.specs.Path.{Built, built, too_long, manifest_of}
 use Rattle.definition.specs.Exports as exports
 use Rattle.definition.specs.Exports.{Request, found, nothing, failed, overlong, InvalidPackageTarget, InvalidPackageConfig, InvalidPackageConfigDirectory, normalize_string_target, target_path, invalid_target, path_not_exported, or_dot}
+use Rattle.path.specs.declared.PathBuf.{PathBuf}
+use Rattle.path.specs.Meaning.{path_of}
 use Rattle.targets.specs.declared.Context.{Context}
 use Rattle.targets.specs.declared.Form.{Form}
 use Rattle.targets.specs.declared.Form.TheVariants.{Plain, Starred, Folder}
@@ -14,7 +16,8 @@ use Rattle.targets.specs.declared.Answer.{Answer}
 use Rattle.targets.specs.declared.Wanted.{Wanted}
 use Rattle.targets.specs.Contexts.{context_of}
 
--- an outcome for a package's directory, the key that led to the target and the pattern match; t is the path, or the target that a failure speaks of
+-- an outcome for a package's directory, the key that led to the target and the pattern match; t is the path, or the
+-- target that a failure speaks of
 abbrev pub outcome_in : (url key : List ℕ) → Option (List ℕ) → Outcome → (t : List ℕ) → exports.Outcome
 outcome_in url key matched Found t = found t
 outcome_in url key matched Nothing t = nothing
@@ -29,13 +32,22 @@ outcome_in url key matched OverLong t = overlong
 abbrev pub resolved : (m : List ℕ) → Context → exports.Outcome → exports.Resolved
 resolved m c o = record { context = context_of m c; outcome = o }
 
--- an answer, whose text is the first of the bytes in the path buffer
-abbrev pub answer_of : (m : List ℕ) → Request → (path : List ℕ) → Answer → exports.Resolved
-answer_of m q path r = resolved m r.context (outcome_in q.package_url q.key q.matched r.outcome (take r.len path))
+-- the text of a path; an over-long one has none
+abbrev pub text_in : Built → List ℕ
+text_in (built t) = t
+text_in too_long = []
+
+-- an outcome of a request, and an answer, whose text is in the lent path
+abbrev pub outcome_at : Request → PathBuf → Outcome → exports.Outcome
+outcome_at q path o = outcome_in q.package_url q.key q.matched o (text_in (path_of path))
+
+abbrev pub answer_of : (m : List ℕ) → Request → PathBuf → Answer → exports.Resolved
+answer_of m q path r = resolved m r.context (outcome_at q path r.outcome)
 
 -- the path of a target, its query and its fragment cut off
 abbrev pub path_target : Request → List ℕ → exports.Outcome
-path_target q t = if starts_with (text "./") t then target_path q (normalize_string_target q.key t q.matched) else invalid_target q t
+path_target q t =
+    if starts_with (text "./") t then target_path q (normalize_string_target q.key t q.matched) else invalid_target q t
 
 -- a request, as far as it decides what a target gives
 abbrev pub Formed : Request → Form → (pattern : List ℕ) → Type 0

@@ -3,17 +3,21 @@
 #![tactic(auto)]
 
 ghost use Rattle.std.specs.Prelude.{◌≡◌, List, [], ◌++◌, ℕ, ◌+◌, ◌≤◌, suc, length, drop, take, ◌&&◌, ◌||◌, leb};
-ghost use Rattle.definition.specs.Text.{star, equal, ends_with, replace, overwrite};
+ghost use Rattle.std.specs.Prelude.{if◌then◌else◌};
+ghost use Rattle.std.proofs.Math.Option.{none, some};
+ghost use Rattle.definition.specs.Text.{text, star, equal, starts_with, ends_with, replace, overwrite, utf8};
 ghost use Rattle.definition.specs.Path.{limited};
-ghost use Rattle.path.specs.Meaning.{path_at, path_of};
+ghost use Rattle.path.specs.Meaning.{path_of};
 ghost use Rattle.definition.specs.Exports.{PATTERN_KEY_COMPARE, is_subpath_key, star_match, pattern_match, or_old, with_query_fragment, Request, target, target_path, normalize_string_target, string_target};
-ghost use Rattle.definition.specs.Specifier.{parse_specifier};
+ghost use mathlib.Core.List.{flat_map};
+ghost use Rattle.definition.specs.Specifier.{unescape, parse_specifier};
+ghost use Rattle.specifier.specs.Meaning.{written, path_text};
 ghost use Rattle.targets.specs.Keys.{rank_of, order_of, match_of};
 ghost use Rattle.targets.specs.Contexts.{string_at, part_text, Inside, context_of};
-ghost use Rattle.targets.specs.Answers.{answer_of, resolved, path_target, Asked};
+ghost use Rattle.targets.specs.Answers.{outcome_at, answer_of, resolved, path_target, Asked};
 
 use path::PathBuf;
-use specifier::Specifier;
+use specifier::{Path, Specifier};
 use std::cmp::Ordering;
 
 // What the order of two keys depends on: the bytes up to the first star (all where there is none), and their number.
@@ -24,6 +28,7 @@ pub struct Rank {
     pub len: usize,
 }
 
+#[tactic(auto, using(crate::proofs::Keys::rank_starred, crate::proofs::Keys::rank_plain))]
 pub fn rank_of(key: &[u8]) -> Rank
     ensures { result ≡ rank_of key.now }
 {
@@ -39,6 +44,7 @@ pub fn rank_of(key: &[u8]) -> Rank
 
 // The longer base comes first, then a pattern, then the longer key. The empty key comes behind every other. For ranks that no key has, the order
 // is free.
+#[tactic(auto, using(crate::proofs::Keys::plain_first, crate::proofs::Keys::plain_second, crate::proofs::Keys::by_size, crate::proofs::Keys::by_base))]
 pub fn compare(a: Rank, b: Rank) -> Ordering
     ensures { (k l : List ℕ) → a ≡ rank_of k → b ≡ rank_of l → order_of result ≡ PATTERN_KEY_COMPARE k l }
 {
@@ -97,12 +103,28 @@ fn star_match(match_key: &[u8], key: &[u8], base: &[u8], trailer: &[u8]) -> Opti
         && !text::contains(trailer, b'*')
         && trailer_fits(match_key, key, trailer)
     {
-        return Some(Span {
+        Some(Span {
             start: base.len(),
             len: match_key.len() - base.len() - trailer.len(),
-        });
+        })
+    } else {
+        None
     }
-    None
+}
+
+// A folder key, by what stands behind it.
+#[tactic(auto, using(std::proofs::lemmas::List::take_rest, laws::specs::TextLaws::starts_with_length))]
+fn folder_match(match_key: &[u8], key: &[u8]) -> Option<Span>
+    ensures { match_of match_key.now result ≡ (if ends_with (text "/") key.now && starts_with key.now match_key.now then some (drop (length key.now) match_key.now) else none) }
+{
+    if text::ends_with(key, b"/") && text::starts_with(match_key, key) {
+        Some(Span {
+            start: key.len(),
+            len: match_key.len() - key.len(),
+        })
+    } else {
+        None
+    }
 }
 
 // The part of the match key that a pattern key, or a folder key, leaves over.
@@ -115,15 +137,10 @@ pub fn pattern_match(match_key: &[u8], key: &[u8]) -> Option<Span>
     }
     let star = text::find(key, b'*', 0);
     if star < key.len() {
-        return star_match(match_key, key, &key[..star], &key[star + 1..]);
+        star_match(match_key, key, &key[..star], &key[star + 1..])
+    } else {
+        folder_match(match_key, key)
     }
-    if text::ends_with(key, b"/") && text::starts_with(match_key, key) {
-        return Some(Span {
-            start: key.len(),
-            len: match_key.len() - key.len(),
-        });
-    }
-    None
 }
 
 // A part of a string of the manifest: the string's place, and where the part stands in its decoded text. One of length 0 is none.
@@ -139,6 +156,17 @@ impl Part {
         ensures { (m : List ℕ) → Inside m self → part_text m result ≡ or_old (part_text m self) (part_text m old) }
     {
         if self.span.len == 0 { old } else { self }
+    }
+
+    // Its text; that of a string with an escape is decoded into work.
+    pub fn text<'a>(self, manifest: &'a [u8], work: &'a mut [u8; 1024]) -> &'a [u8]
+        ensures { result.now ≡ part_text manifest.now self }
+    {
+        if self.span.len == 0 {
+            return b"";
+        }
+        let text = json_text::read_text(manifest, self.at, work);
+        self.span.of(json_text::text_at(manifest, work, text))
     }
 }
 
@@ -168,22 +196,7 @@ impl Context {
     }
 }
 
-// Puts the text of a part at the start of w, as far as there is room. The answer is the text's length.
-pub fn part_text(m: &[u8], p: Part, w: &mut [u8]) -> usize
-    ensures value { result ≡ length (part_text m.now p) }
-    ensures w_after { w.new ≡ overwrite 0 (part_text m.now p) w.old }
-{
-    if p.span.len == 0 {
-        return 0;
-    }
-    let mut decoded = [0u8; 1024];
-    let t = json_text::read_text(m, p.at, &mut decoded);
-    let part = p.span.of(json_text::text_at(m, &decoded, t));
-    text::copy_at(w, 0, part);
-    part.len()
-}
-
-// How the resolution of a target ended. With the path that was found, or the target that a failure speaks of.
+// How the resolution of a target ended.
 #[derive(Clone, Copy, Debug, PartialEq, Eq)]
 pub enum Outcome {
     Found,
@@ -198,12 +211,19 @@ pub enum Outcome {
     OverLong,
 }
 
-// The path, or the target, is the first `len` bytes of a lent buffer.
+// The path, or the target, is in a lent path.
 #[derive(Clone, Copy, Debug, PartialEq, Eq)]
 pub struct Answer {
     pub context: Context,
-    pub len: usize,
     pub outcome: Outcome,
+}
+
+impl Answer {
+    pub fn new(context: Context, outcome: Outcome) -> Answer
+        ensures { result ≡ record { context = context; outcome = outcome } }
+    {
+        Answer { context, outcome }
+    }
 }
 
 // The key that leads to a target: without a pattern match, with a star, or a folder.
@@ -235,53 +255,31 @@ impl<'a> Wanted<'a> {
     }
 }
 
-pub fn without_path(c: Context, outcome: Outcome) -> Answer
-    ensures { (result.context ≡ c) × (result.outcome ≡ outcome) × (result.len ≡ 0) }
-{
-    Answer {
-        context: c,
-        len: 0,
-        outcome,
-    }
-}
-
-// The text that goes with an outcome, copied to the lent buffer.
-#[tactic(auto, using(crate::proofs::Targets::copied))]
-fn with_path(c: Context, outcome: Outcome, t: &[u8], path: &mut [u8; 2048]) -> Answer
-    ensures { (result.context ≡ c) × (result.outcome ≡ outcome) × (path_at path.new result.len ≡ limited t.now) }
-{
-    text::copy_at(path, 0, t);
-    Answer {
-        context: c,
-        len: t.len(),
-        outcome,
-    }
-}
-
 // A target, with the match put in, below the package's directory.
-fn target_path(url: &[u8], t: &[u8], c: Context, path: &mut [u8; 2048]) -> Answer
-    ensures { (m : List ℕ) (q : Request) → q.package_url ≡ url.now → answer_of m q path.new result ≡ resolved m c (target_path q (target t.now)) }
+fn target_path(url: &[u8], t: &[u8], path: &mut PathBuf) -> Outcome
+    ensures { (q : Request) → q.package_url ≡ url.now → outcome_at q path.new result ≡ target_path q (target t.now) }
 {
     if t.len() > 2048 {
-        return without_path(c, Outcome::OverLong);
+        return Outcome::OverLong;
     }
     if path::is_invalid_exports_target(t) {
-        return with_path(c, Outcome::InvalidTarget, t, path);
+        path.set(t);
+        return Outcome::InvalidTarget;
     }
-    let p = path::normalize_with(url, t);
-    match p.as_slice() {
-        Some(found) => with_path(c, Outcome::Found, found, path),
-        None => without_path(c, Outcome::OverLong),
+    path.set_normalized(url, t);
+    match path.as_slice() {
+        Some(_) => Outcome::Found,
+        None => Outcome::OverLong,
     }
 }
 
 // The same for a target that was built.
-fn built_target(url: &[u8], built: &PathBuf, c: Context, path: &mut [u8; 2048]) -> Answer
-    ensures { (m : List ℕ) (q : Request) (t : List ℕ) → q.package_url ≡ url.now → path_of built.now ≡ limited t → answer_of m q path.new result ≡ resolved m c (target_path q (target t)) }
+fn built_target(url: &[u8], built: &PathBuf, path: &mut PathBuf) -> Outcome
+    ensures { (q : Request) (t : List ℕ) → q.package_url ≡ url.now → path_of built.now ≡ limited t → outcome_at q path.new result ≡ target_path q (target t) }
 {
     match built.as_slice() {
-        Some(t) => target_path(url, t, c, path),
-        None => without_path(c, Outcome::OverLong),
+        Some(t) => target_path(url, t, path),
+        None => Outcome::OverLong,
     }
 }
 
@@ -294,73 +292,85 @@ fn substitute(t: &[u8], pattern: &[u8]) -> PathBuf
 }
 
 // `normalize_string_target`, and what it gives.
-fn normalized_target(wanted: Wanted<'_>, t: &[u8], c: Context, path: &mut [u8; 2048]) -> Answer
-    ensures { (m : List ℕ) (q : Request) → Asked q wanted.entry → answer_of m q path.new result ≡ resolved m c (target_path q (normalize_string_target q.key t.now q.matched)) }
+fn normalized_target(wanted: Wanted<'_>, t: &[u8], path: &mut PathBuf) -> Outcome
+    ensures { (q : Request) → Asked q wanted.entry → outcome_at q path.new result ≡ target_path q (normalize_string_target q.key t.now q.matched) }
 {
     let Wanted { url, form, pattern } = wanted;
     match form {
-        Form::Plain => target_path(url, t, c, path),
-        Form::Starred => built_target(url, &substitute(t, pattern), c, path),
+        Form::Plain => target_path(url, t, path),
+        Form::Starred => built_target(url, &substitute(t, pattern), path),
         Form::Folder if text::contains(t, b'*') => {
-            built_target(url, &substitute(t, pattern), c, path)
+            built_target(url, &substitute(t, pattern), path)
         }
         Form::Folder if text::ends_with(t, b"/") => {
-            built_target(url, &path::add_extension(t, pattern), c, path)
+            built_target(url, &path::add_extension(t, pattern), path)
         }
-        Form::Folder => without_path(c, Outcome::ConfigDirectory),
+        Form::Folder => Outcome::ConfigDirectory,
     }
 }
 
 // The path of a target, which has at most 2,048 bytes.
-fn parsed_target(wanted: Wanted<'_>, t: &[u8], c: Context, path: &mut [u8; 2048]) -> Answer
-    ensures { (m : List ℕ) (q : Request) → Asked q wanted.entry → length t.now ≤ 2048 → answer_of m q path.new result ≡ resolved m c (path_target q t.now) }
+fn parsed_target(wanted: Wanted<'_>, t: &[u8], path: &mut PathBuf) -> Outcome
+    ensures { (q : Request) → Asked q wanted.entry → length t.now ≤ 2048 → outcome_at q path.new result ≡ path_target q t.now }
 {
     if text::starts_with(t, b"./") {
-        normalized_target(wanted, t, c, path)
+        normalized_target(wanted, t, path)
     } else {
-        with_path(c, Outcome::InvalidTarget, t, path)
+        path.set(t);
+        Outcome::InvalidTarget
     }
 }
 
+// The same for the path of a specifier, unescaped where something in it is escaped.
+fn specifier_target(wanted: Wanted<'_>, target: Path<'_>, path: &mut PathBuf) -> Outcome
+    ensures { (q : Request) → Asked q wanted.entry → length (path_text target.entry) ≤ 2048 → outcome_at q path.new result ≡ path_target q (path_text target.entry) }
+{
+    match target {
+        Path::Plain(t) => parsed_target(wanted, t, path),
+        Path::Escaped(t) => match specifier::unescaped(t).as_slice() {
+            Some(unescaped) => parsed_target(wanted, unescaped, path),
+            None => Outcome::OverLong,
+        },
+    }
+}
+
+// The query and the fragment of a string at a place, put in place of the old ones.
+fn parsed_context(c: Context, s: &[u8], at: usize, parsed: Specifier<'_>) -> Context
+    requires { written parsed.path ++ parsed.query.now ++ parsed.fragment.now ≡ s.now }
+    ensures { (m : List ℕ) → string_at m at ≡ s.now → context_of m result ≡ with_query_fragment (context_of m c) parsed.entry.query.now parsed.entry.fragment.now }
+{
+    let Specifier {
+        query,
+        fragment,
+        ..
+    } = parsed;
+    let end = s.len() - fragment.len();
+    let query = Span {
+        start: end - query.len(),
+        len: query.len(),
+    };
+    let fragment = Span {
+        start: end,
+        len: fragment.len(),
+    };
+    c.with_query_fragment(Part { at, span: query }, Part { at, span: fragment })
+}
+
 // The text of the string at a place as a target, which has at most 1,024 bytes; for a longer text, or one that is not that string's, the answer is
-// free. The path buffer ends with any other bytes behind the path.
+// free.
 pub fn text_target(
     wanted: Wanted<'_>,
     s: &[u8],
     at: usize,
     c: Context,
-    path: &mut [u8; 2048],
+    path: &mut PathBuf,
 ) -> Answer
     ensures { (m : List ℕ) (q : Request) → Asked q wanted.entry → length s.now ≤ 1024 → string_at m at ≡ s.now → answer_of m q path.new result ≡ string_target q (parse_specifier s.now) s.now (context_of m c) }
 {
-    let parsed = Specifier::parse(s);
-    if parsed.empty {
-        return with_path(c, Outcome::Empty, s, path);
-    }
-    let start = parsed.query;
-    let end = parsed.fragment;
-    let query = text::part(path::first(s, end), start, s.len());
-    let fragment = text::part(s, end, s.len());
-    let context = c.with_query_fragment(
-        Part {
-            at,
-            span: Span {
-                start,
-                len: query.len(),
-            },
-        },
-        Part {
-            at,
-            span: Span {
-                start: end,
-                len: fragment.len(),
-            },
-        },
-    );
-    let t = path::first(s, start);
-    if parsed.escaped {
-        let p = specifier::unescaped(t);
-        return parsed_target(wanted, path::first(&p.bytes, p.len), context, path);
-    }
-    parsed_target(wanted, t, context, path)
+    let Ok(parsed) = Specifier::parse(s) else {
+        path.set(s);
+        return Answer::new(c, Outcome::Empty);
+    };
+    let context = parsed_context(c, s, at, parsed);
+    Answer::new(context, specifier_target(wanted, parsed.path, path))
 }

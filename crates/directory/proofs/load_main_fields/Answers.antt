@@ -7,21 +7,20 @@ use Rattle.directory.proofs.load_main_fields.Goals as goal
 pub loop-name-init : goal.loop-name-init
 loop-name-init c = (
   search rules,
-  search rules,
-  λ j h. left_start _ _ _ _ _ (ap texts_left c.into_iter-name-iterator.ensures.into_iter_gives ∙ c.texts-name-items.ensures),
+  left_start _ _ _ _ _ (ap texts_left c.into_iter-name-iterator.ensures.into_iter_gives ∙ c.texts-name-items.ensures),
 )
 
 pub loop-name-preserved : goal.loop-name-preserved
 loop-name-preserved c = (
   search rules,
-  search rules,
-  λ j h. left_again _ _ _ _ _ _ _ _ _ c.in-Some.ensures.steps (c.loop-name.invariant.2 j h) (c.in_ok-load_main_field.ensures.done j h),
+  left_again _ _ _ _ _ _ _ _ _ c.in-Some.ensures.steps c.loop-name.invariant.1 c.in_ok-load_main_field.ensures.done,
 )
 
 pub returns-in_err-load_main_field-clause-done : goal.returns-in_err-load_main_field-clause-done
-returns-in_err-load_main_field-clause-done c j h =
+returns-in_err-load_main_field-clause-done c =
     rw c.from_residual.ensures
-    (left_stop _ _ _ _ _ _ _ _ _ _ c.in-Some.ensures.steps (c.loop-name.invariant.2 j h) (c.in_err-load_main_field.ensures.done j h))
+    (left_stop _ _ _ _ _ _ _ _ _ _ c.in-Some.ensures.steps c.loop-name.invariant.1
+    c.in_err-load_main_field.ensures.done)
 
 pub returns-clause-done : goal.returns-clause-done
-returns-clause-done c j h = left_end _ _ _ _ _ _ c.in-None.ensures.steps.0 (c.loop-name.invariant.2 j h)
+returns-clause-done c = left_end _ _ _ _ _ _ c.in-None.ensures.steps.0 c.loop-name.invariant.1

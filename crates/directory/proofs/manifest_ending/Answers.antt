@@ -5,9 +5,11 @@ use Rattle.directory.proofs.Manifests.{ending_long, ending_fits}
 use Rattle.directory.proofs.manifest_ending.Goals as goal
 
 pub returns-in_default-clause-finishes : goal.returns-in_default-clause-finishes
-returns-in_default-clause-finishes c = ending_long _ (c.manifest_path-path.ensures ∙ manifest_built _) _ c.in_default.ensures c.refuse.ensures
+returns-in_default-clause-finishes c =
+    ending_long _ (c.manifest_path-path.ensures ∙ manifest_built _) _ c.in_default.ensures c.refuse.ensures
 
 pub returns-clause-finishes : goal.returns-clause-finishes
 returns-clause-finishes c =
     let f = c.finish.ensures in
-    ending_fits _ (c.manifest_path-path.ensures ∙ manifest_built _) c.in-Some.ensures (record { ending = f.ending; texts = f.texts })
+    ending_fits _ (c.manifest_path-path.ensures ∙ manifest_built _) c.in-Some.ensures
+    (record { ending = f.ending; texts = f.texts })

@@ -1,10 +1,7 @@
 -- The nearest manifest is kept where it is in the directory itself.
 use mathlib.Core.Path.{sym, ◌∙◌}
-use mathlib.Core.List.{[]}
-use Rattle.definition.specs.Path.{dirs}
-use Rattle.definition.specs.Settings.{settings_of}
 use Rattle.laws.specs.TextLaws.{equal_true}
-use Rattle.directory.proofs.Manifests.{own_stop, own_nowhere, own_here, own_above, scope_fits}
+use Rattle.directory.proofs.Manifests.{own_stop, own_nowhere, own_here, own_above}
 use Rattle.directory.proofs.own.Goals as goal
 
 pub returns-in_err-package-clause-done : goal.returns-in_err-package-clause-done
@@ -21,11 +18,5 @@ pub returns-clause-done : goal.returns-clause-done
 returns-clause-done c G =
     own_here G _ _ (rw c.in-Some.is at (c.in_ok-package.ensures.done G)) (sym c.equal.ensures ∙ c.if-not-equal.false)
 
-pub returns-clause-held : goal.returns-clause-held
-returns-clause-held c = rw c.in-Some.is at c.in_ok-package.ensures.held
-
-pub returns-clause-fits : goal.returns-clause-fits
-returns-clause-fits c =
-    let e = equal_true _ _ (sym c.equal.ensures ∙ c.if-not-equal.false) in
-    let h = scope_fits (settings_of []) (dirs c.args.dir.now) _ (rw c.in-Some.is at (c.in_ok-package.ensures.done (settings_of []))) in
-    (e, rw e at h)
+pub returns-clause-here : goal.returns-clause-here
+returns-clause-here c = equal_true _ _ (sym c.equal.ensures ∙ c.if-not-equal.false)

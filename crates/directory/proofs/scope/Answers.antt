@@ -1,8 +1,5 @@
 -- A manifest is sought, and then judged.
-use mathlib.Core.List.{[]}
-use Rattle.definition.specs.Path.{dirs}
-use Rattle.definition.specs.Settings.{settings_of}
-use Rattle.directory.proofs.Manifests.{sought_fits, nearest_none, nearest_found, nearest_stop}
+use Rattle.directory.proofs.Manifests.{nearest_none, nearest_found, nearest_stop}
 use Rattle.directory.proofs.scope.Goals as goal
 
 pub returns-in_err-near-clause-done : goal.returns-in_err-near-clause-done
@@ -10,9 +7,6 @@ returns-in_err-near-clause-done c G = rw c.from_residual.ensures (nearest_stop G
 
 pub returns-in_default-clause-done : goal.returns-in_default-clause-done
 returns-in_default-clause-done c G = nearest_none G _ (rw c.in_default.is at (c.in_ok-near.ensures.done G))
-
-pub judge-requires : goal.judge-requires
-judge-requires c = sought_fits (dirs c.args.dir.now) _ (rw c.in-Some.is at (c.in_ok-near.ensures.done (settings_of [])))
 
 pub returns-in_err-package-clause-done : goal.returns-in_err-package-clause-done
 returns-in_err-package-clause-done c G =

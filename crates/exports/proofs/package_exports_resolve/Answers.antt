@@ -16,6 +16,7 @@ returns-in-Break-clause-result_after c j l h =
 pub returns-in-Continue-clause-result_after : goal.returns-in-Continue-clause-result_after
 unfolding settings_of
 returns-in-Continue-clause-result_after c j l h =
-    subpath_is _ c.args.field.url.now c.args.subpath.now _ c.unresolved-in-Continue.result c.in-Continue.context NotExported
+    subpath_is _ c.args.field.url.now c.args.subpath.now _ c.unresolved-in-Continue.result c.in-Continue.context
+    NotExported
     c.unresolved-in-Continue.ensures
     ∙ c.in-Continue.ensures.result_after j (stands_at h)

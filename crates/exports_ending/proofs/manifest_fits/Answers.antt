@@ -1,3 +1,4 @@
+-- A slash comes between, where the directory has none at its end.
 use mathlib.Core.Path.{◌∙◌}
 use Rattle.exports_ending.proofs.Failures.{fits_slash, fits_short}
 use Rattle.exports_ending.proofs.manifest_fits.Goals as goal

@@ -7,4 +7,6 @@ pub returns-then-not-file_first-clause-done : goal.returns-then-not-file_first-c
 returns-then-not-file_first-clause-done c = file_skipped _ _ _ _ (sym c.file_first.ensures ∙ c.if-not-file_first.true)
 
 pub returns-clause-done : goal.returns-clause-done
-returns-clause-done c = file_tried _ _ _ _ (sym c.file_first.ensures ∙ c.if-not-file_first.false) (rw c.bare.ensures at c.load_as_file.ensures.done)
+returns-clause-done c =
+    file_tried _ _ _ _ (sym c.file_first.ensures ∙ c.if-not-file_first.false)
+    (rw c.bare.ensures at c.load_as_file.ensures.done)

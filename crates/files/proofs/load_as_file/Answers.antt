@@ -29,7 +29,8 @@ pub returns-in_err-try_extension-clause-done : goal.returns-in_err-try_extension
 unfolding LOAD_AS_FILE ◌>>◌
 returns-in_err-try_extension-clause-done c =
     rw c.from_residual-in_err-try_extension.ensures (done_bind _ (c.in_ok-try_file.ensures.done _)
-    (left_stop _ _ _ _ _ _ _ _ _ _ c.in-Some.ensures.steps c.loop-ext.invariant.1 (c.in_err-try_extension.ensures.done _)))
+    (left_stop _ _ _ _ _ _ _ _ _ _ c.in-Some.ensures.steps c.loop-ext.invariant.1
+    (c.in_err-try_extension.ensures.done _)))
 
 pub returns-clause-done : goal.returns-clause-done
 unfolding LOAD_AS_FILE ◌>>◌

@@ -9,4 +9,5 @@ abbrev pub invariant-loop-file : goal.invariant-loop-file
 invariant-loop-file l =
     let G = settings_in l.job in
     Same l.initial.tape l.tape
-    × Left (seen_in l.job) (load_main_file G (place_of l.place)) G.main_files (tape_of l.initial.tape) (texts_left l.file-iterator) (tape_of l.tape)
+    × Left (seen_in l.job) (load_main_file G (place_of l.place)) G.main_files (tape_of l.initial.tape)
+    (texts_left l.file-iterator) (tape_of l.tape)

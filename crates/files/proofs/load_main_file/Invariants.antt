@@ -9,4 +9,5 @@ abbrev pub invariant-loop-ext : goal.invariant-loop-ext
 invariant-loop-ext l =
     let G = settings_in l.job in
     Same l.initial.tape l.tape
-    × Left (seen_in l.job) (try_index G (place_of l.place) l.file) G.extensions (tape_of l.initial.tape) (texts_left l.ext-iterator) (tape_of l.tape)
+    × Left (seen_in l.job) (try_index G (place_of l.place) l.file) G.extensions (tape_of l.initial.tape)
+    (texts_left l.ext-iterator) (tape_of l.tape)

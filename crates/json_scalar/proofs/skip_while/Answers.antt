@@ -1,28 +1,21 @@
 -- By where the first byte stands that fails the test.
-use mathlib.Core.Path.{sym, ◌∙◌, ap}
-use Prim.Native.Nat.{◌+◌}
-use native.Mathlib.Omega.{arith}
-use lib.ListN.{drop}
+use mathlib.Core.Path.{refl, sym, ◌∙◌, ap}
+use lib.ListN.{drop, get_or}
 use lib.Seq.{drop-drop}
-use Rattle.std.specs.List.{prefix_len}
-use Rattle.std.specs.Prelude.{not}
-use Rattle.std.proofs.lemmas.Iterator.{YieldsList-from_slice}
-use Rattle.std.proofs.lemmas.Iterator.Search.{position_from_yields_List}
 use borrow.Author.Tests.{tests}
 use borrow.Author.Rules.{rules}
-use Rattle.definition.specs.Text.{skip_while}
-use Rattle.json_string.proofs.Rules.{past}
-use Rattle.json_text.proofs.Positions.{passed, until_failing, skip_prefix}
+use Rattle.std.specs.List.{prefix_len}
+use Rattle.std.specs.Prelude.{not, unwrap_or}
+use Rattle.std.proofs.lemmas.Iterator.{YieldsList-from_range}
+use Rattle.std.proofs.lemmas.Iterator.Adapters.{option_map_id}
+use Rattle.std.proofs.lemmas.Iterator.Search.{find_from_yields_List}
+use Rattle.json_text.proofs.Positions.{first_failing, skip_prefix}
 use Rattle.json_scalar.proofs.skip_while.Goals as goal
-
-pub returns-in_default : goal.returns-in_default
-unfolding skip_while
-returns-in_default g c p h = rw (past c.args.m.now c.args.at (omega (arith, c.in_default.ensures.lookup)))
 
 pub returns : goal.returns
 returns g c p h =
-    let place = position_from_yields_List (λ b. not (p b)) _ _ c.position.result c.position.ensures.ran (YieldsList-from_slice c.in-Some.rest.now c.iter.ensures.rest) (λ x b q k. (search (rules, tests), search (rules, tests, h))) in
-    let end = passed (λ b. not (p b)) c.args.m.now c.in-Some.rest.now c.args.at c.in-Some.ensures.lookup.0.2 place c.unwrap_or.ensures in
-    skip_prefix p (drop c.args.at c.args.m.now)
-    ∙ drop-drop (prefix_len p (drop c.args.at c.args.m.now)) c.args.at c.args.m.now
-    ∙ ap (λ k. drop k c.args.m.now) (sym (end ∙ ap (λ n. c.args.at + n) (until_failing p (drop c.args.at c.args.m.now))))
+    let m = c.args.m.now in
+    let place = find_from_yields_List (λ i. not (p (get_or m i 0))) _ _ c.find.result c.find.ensures.ran (YieldsList-from_range c.args.at _ _ refl refl) (λ x b q k. (search (rules, tests), search (rules, tests, h))) in
+    let end = c.unwrap_or.ensures ∙ ap (unwrap_or c.find.result) c.max.ensures ∙ first_failing p m c.args.at _ refl _ (sym (option_map_id _) ∙ place) in
+    skip_prefix p (drop c.args.at m) ∙ drop-drop (prefix_len p (drop c.args.at m)) c.args.at m
+    ∙ ap (λ k. drop k m) (sym end)

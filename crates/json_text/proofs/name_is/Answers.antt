@@ -11,7 +11,8 @@ returns-else-same_text c =
     name_other c.args.m.now c.args.key.now c.args.at c.in-Some-eq34.ensures.left c.in-Some-eq34.field-0-test c.same_text.ensures c.if-same_text.false
 
 pub returns-in_default : goal.returns-in_default
-returns-in_default c = name_unquoted c.args.m.now c.args.key.now c.args.at c.in_default.ensures.left c.in_default.field-0-test.1
+returns-in_default c =
+    name_unquoted c.args.m.now c.args.key.now c.args.at c.in_default.ensures.left c.in_default.field-0-test.1
 
 pub returns-in_default-2 : goal.returns-in_default-2
 returns-in_default-2 c = name_none c.args.m.now c.args.key.now c.args.at (rw c.in_default.is at c.byte_at.ensures.left)

@@ -1,22 +1,15 @@
 -- By where the string ends, where its first quote or backslash stands, and what was decoded.
 use mathlib.Core.Path.{sym, ◌∙◌}
 use Prim.Native.Nat.{◌+◌}
-use Rattle.json_text.proofs.Strings.{quoted_inside, quoted_read, text_plain, starts_quote_lem, quote_there, plain_stop_at, escaped, no_escape}
+use Rattle.json_text.proofs.Strings.{quoted_read, text_plain, starts_quote_lem, quote_there, plain_stop_at, escaped, no_escape}
 use Rattle.json_text.proofs.Texts.{told_none, told_plain, told_short, told_work}
 use Rattle.json_text.proofs.Laws.{read_some, read_none}
 use Rattle.json_text.proofs.Buffer.{gave_some, gave_none}
-use native.Mathlib.Omega.{arith}
 use Rattle.json_text.proofs.read_text.Goals as goal
 
 pub returns-in_err-ok : goal.returns-in_err-ok
 returns-in_err-ok c =
     rw c.from_residual.ensures (told_none c.args.m.now c.args.at _ (read_none _ c.quoted.ensures c.ok.ensures.value c.in_err-ok.was).1)
-
-pub overflow_add-start : goal.overflow_add-start
-overflow_add-start c =
-    let q = read_some _ c.quoted.ensures c.ok.ensures.value c.in_ok-ok.was in
-    let l = quoted_inside c.args.m.now c.args.at q.1 in
-    omega arith
 
 pub returns-then-eq : goal.returns-then-eq
 returns-then-eq c =

@@ -7,7 +7,8 @@ pub loop-k-init : goal.loop-k-init
 loop-k-init c t u h = verbatim_start _ _ t u h
 
 pub returns-then-b-eq34 : goal.returns-then-b-eq34
-returns-then-b-eq34 c t u h = ends_both c.args.key.now c.loop-k.k ∙ verbatim_close (c.loop-k.invariant t u h) c.loop-k-test.true c.if-b-eq34.true
+returns-then-b-eq34 c t u h =
+    ends_both c.args.key.now c.loop-k.k ∙ verbatim_close (c.loop-k.invariant t u h) c.loop-k-test.true c.if-b-eq34.true
 
 pub returns-then-ne : goal.returns-then-ne
 returns-then-ne c t u h =

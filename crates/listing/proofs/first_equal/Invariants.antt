@@ -1,9 +1,10 @@
+-- None of the entries so far has the path.
 use Prim.Native.Nat.{◌-◌}
-use Rattle.listing.specs.Meaning.{Reached, NoneBefore}
+use Rattle.listing.specs.Meaning.{SameListing, NoneBefore}
 use Rattle.listing.proofs.first_equal.Given as goal
 
-abbrev pub invariant-loop-i : goal.invariant-loop-i
-invariant-loop-i l = Reached l.l l.n l.i l.at × NoneBefore l.l l.path l.i
+abbrev pub invariant-loop-spot : goal.invariant-loop-spot
+invariant-loop-spot l = SameListing l.first l.spot × NoneBefore l.first.listing.now l.path l.spot.index
 
-abbrev pub decreases-loop-i : goal.decreases-loop-i
-decreases-loop-i l = l.n - l.i
+abbrev pub decreases-loop-spot : goal.decreases-loop-spot
+decreases-loop-spot l = l.n - l.spot.index

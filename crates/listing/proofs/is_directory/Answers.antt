@@ -18,4 +18,5 @@ other l (File a e) n = refl
 
 pub returns-in_default : goal.returns-in_default
 unfolding is_directory_of
-returns-in_default c = rw (sym c.search.ensures.entry) (sym (other c.args.l.now c.search.result c.in_default.not-Directory))
+returns-in_default c = rw (sym c.search.ensures.entry)
+    (sym (other c.args.l.now c.search.result c.in_default.not-Directory))

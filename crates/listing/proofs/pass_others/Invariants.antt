@@ -1,9 +1,12 @@
-use Prim.Native.Nat.{◌-◌, ◌≤◌}
-use Rattle.listing.specs.Meaning.{Reached, NoneBefore}
+-- The entries so far have other paths.
+use Rattle.std.proofs.Common.{◌-◌, ◌≤◌}
+use Rattle.listing.specs.Meaning.{SameListing, NoneBefore}
 use Rattle.listing.proofs.pass_others.Given as goal
 
-abbrev pub invariant-loop-i : goal.invariant-loop-i
-invariant-loop-i l = Reached l.l l.n l.i l.at × (l.i ≤ l.to) × (NoneBefore l.l l.path l.from → NoneBefore l.l l.path l.i)
+abbrev pub invariant-loop-spot : goal.invariant-loop-spot
+invariant-loop-spot l =
+    SameListing l.from l.spot × (l.spot.index ≤ l.to)
+    × (NoneBefore l.from.listing.now l.path l.from.index → NoneBefore l.from.listing.now l.path l.spot.index)
 
-abbrev pub decreases-loop-i : goal.decreases-loop-i
-decreases-loop-i l = l.to - l.i
+abbrev pub decreases-loop-spot : goal.decreases-loop-spot
+decreases-loop-spot l = l.to - l.spot.index

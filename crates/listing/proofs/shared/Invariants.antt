@@ -1,10 +1,7 @@
-use Prim.Native.Nat.{◌-◌}
-use lib.ListN.{length}
+-- The fours so far are shared.
+use Prim.Native.Nat.{◌*◌}
 use Rattle.laws.specs.ListingOrder.{Shared}
 use Rattle.listing.proofs.shared.Given as goal
 
-abbrev pub invariant-loop-i : goal.invariant-loop-i
-invariant-loop-i l = Shared l.p l.q l.i
-
-abbrev pub decreases-loop-i : goal.decreases-loop-i
-decreases-loop-i l = length l.p - l.i
+abbrev pub invariant-loop-k : goal.invariant-loop-k
+invariant-loop-k l = Shared l.p l.q (4 * l.k)

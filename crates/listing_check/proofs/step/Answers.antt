@@ -1,63 +1,56 @@
 -- Each way out of the step breaks a rule, or goes on with the marks of the next path.
-use Rattle.std.proofs.Common.{arith}
-use borrow.Author.Tests.{not-true, not-false}
+use Rattle.std.proofs.Common.{refl, sym, arith}
+use Rattle.definition.specs.Text.{slash}
+use Rattle.laws.specs.PathSteps.{last_inside}
 use Rattle.listing_check.proofs.Rises.{risen}
-use Rattle.listing_check.proofs.Steps.{down, no_slash, two_slashes, apart, unmarked, too_deep, no_name, onward}
+use Rattle.listing_check.proofs.Steps.{named, unnamed, down, two_slashes, apart, unmarked, too_deep, onward}
 use Rattle.listing_check.proofs.step.Goals as goal
-use Rattle.listing_check.proofs.step.Goals.{then-s-q-via-then-s-q, then-s-q-via-else-s-q+then-s-eq1}
-use Rattle.listing_check.proofs.step.Goals.{then-v-eq0-via-then-v-eq0, then-v-eq0-via-else-v-eq0+then-v-gt32}
-use Rattle.listing_check.proofs.step.Goals.{then-v-eq0-via-else-v-eq0+else-v-gt32+then-not-last}
+use Rattle.listing_check.proofs.step.Goals.{then-slash-eq1-via-then-slash-eq1}
+use Rattle.listing_check.proofs.step.Goals.{then-slash-eq1-via-else-slash-eq1+then-k-j}
+use Rattle.listing_check.proofs.step.Goals.{then-slash-eq1-via-else-slash-eq1+else-k-j+then-v-eq0}
+use Rattle.listing_check.proofs.step.Goals.{then-slash-eq1-via-else-slash-eq1+else-k-j+else-v-eq0+then-v-gt32}
 
-pub returns-then-s-q : goal.returns-then-s-q
-returns-then-s-q c =
+pub returns-in_err-slash : goal.returns-in_err-slash
+returns-in_err-slash c =
     let a = c.args in
-    let l = c.last_of-last.ensures.last in
-    elim c.then-s-q.branch [
-      | then-s-q-via-then-s-q w ↦ no_slash a.p.now a.q.now a.d a.m.now _ l w.if-s-q.true
-      | then-s-q-via-else-s-q+then-s-eq1 w ↦ two_slashes a.p.now a.q.now a.d a.m.now _ l w.if-s-q.false w.if-s-eq1.true
-    ]
+    rw c.from_residual-in_err-slash.ensures (unnamed a.p.now a.q.now a.d a.m.now c.in_err-slash.ensures)
 
-pub returns-in_default : goal.returns-in_default
-returns-in_default c =
+pub returns-in_err-j : goal.returns-in_err-j
+returns-in_err-j c =
     let a = c.args in
-    down a.p.now a.q.now a.d a.m.now c.rise.ensures c.in_default.is
-
-pub returns-then-k-j : goal.returns-then-k-j
-returns-then-k-j c =
-    let a = c.args in
-    apart a.p.now a.q.now a.d a.m.now _ c.last_of-last.ensures.last c.if-s-q.false c.if-s-eq1.false _ c.max-k.ensures _
-    (risen c.rise.ensures c.in-Some.is) c.if-k-j.true
+    rw c.from_residual.ensures (down a.p.now a.q.now a.d a.m.now c.rise.ensures c.in_err-j.was)
 
 pub bounds-m-k : goal.bounds-m-k
-bounds-m-k c = omega (arith, (risen c.rise.ensures c.in-Some.is).inside)
+bounds-m-k c = omega (arith, (named c.args.q.now c.in_ok-slash.ensures).0, last_inside slash c.args.q.now)
 
-pub returns-then-v-eq0 : goal.returns-then-v-eq0
-returns-then-v-eq0 c =
+pub returns-then-slash-eq1 : goal.returns-then-slash-eq1
+returns-then-slash-eq1 c =
     let a = c.args in
-    let l = c.last_of-last.ensures in
-    let r = risen c.rise.ensures c.in-Some.is in
+    let n = named c.args.q.now c.in_ok-slash.ensures in
+    let r = risen c.rise.ensures c.in_ok-j.was in
     let k = c.max-k.ensures in
-    elim c.then-v-eq0.branch [
-      | then-v-eq0-via-then-v-eq0 w ↦
-          unmarked a.p.now a.q.now a.d a.m.now _ l.last c.if-s-q.false c.if-s-eq1.false _ k _ r (omega arith) w.if-v-eq0.true
-      | then-v-eq0-via-else-v-eq0+then-v-gt32 w ↦
-          too_deep a.p.now a.q.now a.d a.m.now _ l.last c.if-s-q.false c.if-s-eq1.false _ k _ r (omega arith)
-          w.if-v-eq0.false w.if-v-gt32.true
-      | then-v-eq0-via-else-v-eq0+else-v-gt32+then-not-last w ↦
-          no_name a.p.now a.q.now a.d a.m.now _ l.last c.if-s-q.false c.if-s-eq1.false _ k _ r (omega arith)
-          w.if-v-eq0.false l.behind (not-true _ w.if-not-last.true)
+    elim c.then-slash-eq1.branch [
+      | then-slash-eq1-via-then-slash-eq1 w ↦ two_slashes a.p.now a.q.now a.d a.m.now _ n.0 n.2 w.if-slash-eq1.true
+      | then-slash-eq1-via-else-slash-eq1+then-k-j w ↦
+          apart a.p.now a.q.now a.d a.m.now _ n.0 n.2 w.if-slash-eq1.false _ k _ r w.if-k-j.true
+      | then-slash-eq1-via-else-slash-eq1+else-k-j+then-v-eq0 w ↦
+          unmarked a.p.now a.q.now a.d a.m.now _ n.0 n.2 w.if-slash-eq1.false _ k _ r w.if-k-j.false w.if-v-eq0.true
+      | then-slash-eq1-via-else-slash-eq1+else-k-j+else-v-eq0+then-v-gt32 w ↦
+          too_deep a.p.now a.q.now a.d a.m.now _ n.0 n.2 w.if-slash-eq1.false _ k _ r w.if-k-j.false w.if-v-eq0.false
+          w.if-v-gt32.true
     ]
 
 pub remark-requires-clause-behind : goal.remark-requires-clause-behind
-remark-requires-clause-behind c = (risen c.rise.ensures c.in-Some.is).below
+remark-requires-clause-behind c = (risen c.rise.ensures c.in_ok-j.was).below
 
 pub remark-requires-clause-shared : goal.remark-requires-clause-shared
-remark-requires-clause-shared c = (risen c.rise.ensures c.in-Some.is).inside
+remark-requires-clause-shared c = (risen c.rise.ensures c.in_ok-j.was).inside
 
 pub returns : goal.returns
 returns c =
     let a = c.args in
-    let l = c.last_of-last.ensures in
-    let r = risen c.rise.ensures c.in-Some.is in
-    onward a.p.now a.q.now a.d a.m.now _ l.last c.if-s-q.false c.if-s-eq1.false _ c.max-k.ensures _ r (omega arith)
-    c.if-v-eq0.false l.behind (not-false _ c.if-not-last.false) c.if-v-gt32.false c.mark_of.ensures c.remark.ensures
+    let n = named c.args.q.now c.in_ok-slash.ensures in
+    let r = risen c.rise.ensures c.in_ok-j.was in
+    onward a.p.now a.q.now a.d a.m.now _ n.0 n.2 c.if-slash-eq1.false _ c.max-k.ensures _ r c.if-k-j.false
+    c.if-v-eq0.false
+    (sym n.1) refl c.if-v-gt32.false c.mark_of.ensures c.remark.ensures

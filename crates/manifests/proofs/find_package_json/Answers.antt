@@ -14,7 +14,8 @@ pub returns-in-Some-2-clause-done : goal.returns-in-Some-2-clause-done
 unfolding seek or_further
 returns-in-Some-2-clause-done c =
     λ G. c.loop-dir.invariant.1 G _ _ (rw c.in-Some.ensures.steps
-    (done_bind _ (rw c.in-Some-2.is at (c.in_ok-contents.ensures.done G)) done_ret))
+    (done_bind _ (rw c.in-Some-2.is at (c.in_ok-contents.ensures.done G))
+    (rw (c.of.ensures.dir, c.of.ensures.contents) done_ret)))
 
 pub loop-dir-preserved : goal.loop-dir-preserved
 unfolding seek or_further

@@ -8,4 +8,5 @@ use Rattle.manifests.proofs.find_package_json.Given as goal
 
 abbrev pub invariant-loop-dir : goal.invariant-loop-dir
 invariant-loop-dir l =
-    Same l.initial.tape l.tape × ((G : Settings) → Climbing (seen_by G l.l) l.fn.dir (tape_of l.initial.tape) (dirs_left l.dir-iterator) (tape_of l.tape))
+    Same l.initial.tape l.tape × ((G : Settings)
+    → Climbing (seen_by G l.l) l.fn.dir (tape_of l.initial.tape) (dirs_left l.dir-iterator) (tape_of l.tape))

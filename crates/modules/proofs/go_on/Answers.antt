@@ -1,19 +1,23 @@
 -- Where DIR/NAME is a directory its exports are loaded.
+use Rattle.std.proofs.Common.{rules}
+use Rattle.definition.specs.Ask.{◌>>◌}
+use Rattle.definition.specs.Walk.{go_on}
 use Rattle.refusal.specs.declared.Refusal.TheVariants.{Specifier}
+use Rattle.consults.specs.Tape.{done_ret, done_bind, done_stop}
 use Rattle.directory.proofs.Rooms.{was_done, fits}
-use Rattle.modules.proofs.Modules.{exports_ended, exports_passed}
 use Rattle.modules.proofs.go_on.Goals as goal
 
-pub returns-then-not-is_dir-clause-done : goal.returns-then-not-is_dir-clause-done
-returns-then-not-is_dir-clause-done c = rw c.if-not-is_dir.true c.without_directory.ensures.done
-
 pub returns-in_err-load_package_exports-clause-done : goal.returns-in_err-load_package_exports-clause-done
+unfolding go_on ◌>>◌
 returns-in_err-load_package_exports-clause-done c =
-    let p = c.requires in
     rw (c.from_residual.ensures, c.if-not-is_dir.false)
-    (exports_ended _ _ _ _ _ (was_done (fits Specifier 512 _ _ p.0 p.1) c.in_err-load_package_exports.ensures.done))
+    (done_stop _
+    (was_done (fits Specifier 512 _ _ (search rules) c.args.request.short) c.in_err-load_package_exports.ensures.done))
 
 pub returns-clause-done : goal.returns-clause-done
+unfolding go_on ◌>>◌
 returns-clause-done c =
-    let p = c.requires in
-    rw c.if-not-is_dir.false (exports_passed _ _ _ _ _ (was_done (fits Specifier 512 _ _ p.0 p.1) c.in_ok-load_package_exports.ensures.done))
+    rw c.if-not-is_dir.false
+    (done_bind _
+    (was_done (fits Specifier 512 _ _ (search rules) c.args.request.short) c.in_ok-load_package_exports.ensures.done)
+    done_ret)

@@ -16,7 +16,8 @@ returns-clause-written c e l w g =
     let x = c.args.ending in
     let t = c.args.tape.now in
     let s : t.mark.size ≡ length (joined (paths l)) = let z = k.size in let y = room.size in omega arith in
-    filled (record { answer = c.answer_of.result; consults = t.mark.count }) t.result.now t.numbers.now t.text.now _ _ _ e l w
+    filled (record { answer = c.answer_of.result; consults = t.mark.count })
+    t.result.now t.numbers.now t.text.now _ _ _ e l w
     (rw c.answer_of.ensures (answer_is x e k.ending)) k.count
     (text_done (text_length x) _ t.result.now _ (length_of _ e k.ending) room.result g.result c.zero_from.ensures)
     (c.finish_numbers.ensures l k.count s g.numbers)

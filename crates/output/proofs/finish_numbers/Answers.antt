@@ -1,3 +1,4 @@
+-- `spread` keeps the length, and its numbers stand between the first two and the zeros.
 use native.Mathlib.Omega.{arith}
 use lib.ListN.{length-set}
 use Rattle.output.proofs.Filling.{numbers_done}

@@ -18,8 +18,12 @@ loop-i-preserved c =
     let l = c.loop-i in
     let a = c.args in
     let more : l.i < a.count = omega arith in
-    let here : get_or l.nums (2 + l.i) 0 ≡ packed_at a.count a.nums.now l.i = rw l.invariant.2 (spread_here a.count a.nums.now c.requires l.i more) in
-    (search rules, simp length-set l.invariant.1, rw (here, l.invariant.2) (spread_step a.count a.nums.now c.requires l.i more))
+    let here : get_or l.nums (2 + l.i) 0 ≡ packed_at a.count a.nums.now l.i =
+    rw l.invariant.2 (spread_here a.count a.nums.now c.requires l.i more) in (
+      search rules,
+      simp length-set l.invariant.1,
+      rw (here, l.invariant.2) (spread_step a.count a.nums.now c.requires l.i more),
+    )
 
 pub returns : goal.returns
 returns c =

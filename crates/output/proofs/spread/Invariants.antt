@@ -6,4 +6,6 @@ use Rattle.output.proofs.Spreading.{spread_to}
 use Rattle.output.proofs.spread.Given as goal
 
 abbrev pub invariant-loop-i : goal.invariant-loop-i
-invariant-loop-i l = (l.i ≤ l.count) × (length l.nums ≡ length l.initial.nums) × (l.nums ≡ spread_to l.i l.count l.initial.nums)
+invariant-loop-i l =
+    (l.i ≤ l.count) × (length l.nums ≡ length l.initial.nums)
+    × (l.nums ≡ spread_to l.i l.count l.initial.nums)

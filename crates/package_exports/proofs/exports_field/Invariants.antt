@@ -5,4 +5,4 @@ use Rattle.package_exports.proofs.Fields.{Passed}
 use Rattle.package_exports.proofs.exports_field.Given as goal
 
 abbrev pub invariant-loop-name : goal.invariant-loop-name
-invariant-loop-name l = Passed l.m l.root (texts_of l.s 4) (texts_left l.name-iterator)
+invariant-loop-name l = Passed l.package.manifest.now l.package.root (texts_of l.s 4) (texts_left l.name-iterator)

@@ -5,7 +5,8 @@ use Rattle.package_json.proofs.Walks.{bracket_cut, onward_cut, onward_text, onwa
 use Rattle.package_json.proofs.bracket_end.Goals as goal
 
 pub returns-in_err-b : goal.returns-in_err-b
-returns-in_err-b c = rw c.from_residual.ensures (bracket_cut c.args.m.now c.loop-b.i _ c.in_err-b.ensures.left ∙ sym c.loop-b.invariant.1)
+returns-in_err-b c =
+    rw c.from_residual.ensures (bracket_cut c.args.m.now c.loop-b.i _ c.in_err-b.ensures.left ∙ sym c.loop-b.invariant.1)
 
 pub returns-in_err-i : goal.returns-in_err-i
 returns-in_err-i c =
@@ -15,13 +16,15 @@ returns-in_err-i c =
 pub loop-b-preserved-then-b-eq34 : goal.loop-b-preserved-then-b-eq34
 loop-b-preserved-then-b-eq34 c = (
   omega (arith, c.in_ok-i.ensures.ahead),
-  c.loop-b.invariant.1 ∙ onward_text c.args.m.now c.loop-b.i _ c.in_ok-b.ensures.left _ c.if-b-eq34.true c.in_ok-i.ensures.found,
+  c.loop-b.invariant.1
+      ∙ onward_text c.args.m.now c.loop-b.i _ c.in_ok-b.ensures.left _ c.if-b-eq34.true c.in_ok-i.ensures.found,
 )
 
 pub loop-b-preserved-then-opens_bracket : goal.loop-b-preserved-then-opens_bracket
 loop-b-preserved-then-opens_bracket c = (
   omega arith,
-  c.loop-b.invariant.1 ∙ onward_open c.args.m.now c.loop-b.i _ c.in_ok-b.ensures.left c.if-b-eq34.false (sym c.opens_bracket.ensures ∙ c.if-opens_bracket.true),
+  c.loop-b.invariant.1
+      ∙ onward_open c.args.m.now c.loop-b.i _ c.in_ok-b.ensures.left c.if-b-eq34.false (sym c.opens_bracket.ensures ∙ c.if-opens_bracket.true),
 )
 
 pub returns-then-open-eq0 : goal.returns-then-open-eq0

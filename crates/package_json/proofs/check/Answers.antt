@@ -12,7 +12,9 @@ returns-in_err-end c =
     rw (out.1, out.2) (check_fault c.args.m.now c.if-m-gt-SIZE.false _ _ c.mark.ensures c.skip_space-root.ensures c.in_err-end.ensures)
 
 pub returns-then-skip_space-m : goal.returns-then-skip_space-m
-returns-then-skip_space-m c = check_more c.args.m.now c.if-m-gt-SIZE.false _ _ c.mark.ensures c.skip_space-root.ensures c.in_ok-end.ensures c.skip_space.ensures c.if-skip_space-m.true
+returns-then-skip_space-m c =
+    check_more c.args.m.now c.if-m-gt-SIZE.false _ _ c.mark.ensures c.skip_space-root.ensures c.in_ok-end.ensures c.skip_space.ensures c.if-skip_space-m.true
 
 pub returns : goal.returns
-returns c = check_all c.args.m.now c.if-m-gt-SIZE.false _ _ c.mark.ensures c.skip_space-root.ensures c.in_ok-end.ensures c.skip_space.ensures c.if-skip_space-m.false
+returns c =
+    check_all c.args.m.now c.if-m-gt-SIZE.false _ _ c.mark.ensures c.skip_space-root.ensures c.in_ok-end.ensures c.skip_space.ensures c.if-skip_space-m.false

@@ -1,39 +1,38 @@
 -- By one member more at a time; the last value of the name counts.
-use mathlib.Core.Path.{sym, ◌∙◌, ap}
-use mathlib.Core.Option.{none}
-use native.Mathlib.Omega.{arith}
-use Rattle.definition.specs.JsonAt.{find_member, get_at}
+use Rattle.std.proofs.Common.{drop, sym, ◌∙◌, ap}
 use Rattle.package_json.specs.Cursors.{placed}
-use Rattle.package_json.proofs.Walks.{picks_value, picks_found, find_end, find_over, find_cut, find_more}
+use Rattle.package_json.proofs.Parts.{get_is, found_in, found_end, found_here, found_other}
 use Rattle.package_json.proofs.get.Goals as goal
-use Rattle.package_json.proofs.get.Goals.{then-name_is, else-name_is}
 
-pub loop-init : goal.loop-init
-loop-init c = record { is = ap (find_member 128 c.args.name.now none) (sym c.first_member-next.ensures) }
+pub loop-member-init : goal.loop-member-init
+loop-member-init c =
+    rw c.into_iter-member-iterator.ensures.into_iter_gives (record {
+      manifest = c.members-member-items.ensures.manifest;
+      same =
+          get_is c.args.name.now (drop c.args.at c.args.m.now)
+          ∙ ap (found_in _ _) (sym c.members-member-items.ensures.are);
+    })
 
-pub loop-preserved : goal.loop-preserved
-loop-preserved c =
-    find_more c.loop.invariant (ap (placed c.args.m.now) (sym c.in-Some.is)) (omega arith)
-    (elim c.if-name_is.branch [
-      | then-name_is w ↦ picks_value w.if-name_is.ensures (ap (placed c.args.m.now) w.found-is ∙ c.member_value-value.ensures)
-      | else-name_is w ↦ picks_found w.if-name_is.ensures (ap (placed c.args.m.now) w.found-is)
-    ])
-    _ c.in-Some-value.ensures c.next_element-next.ensures (omega arith)
+pub loop-member-preserved-then-name_is : goal.loop-member-preserved-then-name_is
+loop-member-preserved-then-name_is c =
+    let g = c.loop-member.invariant in
+    let x = c.in-Some.ensures.steps in
+    record {
+      manifest = x.manifest ∙ g.manifest;
+      same =
+          g.same
+          ∙ found_here _ _ x.first (rw g.manifest c.if-name_is.ensures)
+          (ap (λ m. placed m c.in-Some.member.value) (sym g.manifest) ∙ x.value);
+    }
 
-pub returns-after-loop : goal.returns-after-loop
-unfolding get_at
-returns-after-loop c = find_over c.loop.invariant (omega arith)
+pub loop-member-preserved : goal.loop-member-preserved
+loop-member-preserved c =
+    let g = c.loop-member.invariant in
+    let x = c.in-Some.ensures.steps in
+    record {
+      manifest = x.manifest ∙ g.manifest;
+      same = g.same ∙ found_other _ _ x.first (rw g.manifest c.if-name_is.ensures);
+    }
 
-pub returns-in_default : goal.returns-in_default
-unfolding get_at
-returns-in_default c = find_end c.loop.invariant (ap (placed c.args.m.now) (sym c.in_default.is))
-
-pub returns-in_default-value : goal.returns-in_default-value
-unfolding get_at
-returns-in_default-value c =
-    find_cut c.loop.invariant (ap (placed c.args.m.now) (sym c.in-Some.is)) (omega arith)
-    (elim c.if-name_is.branch [
-      | then-name_is w ↦ picks_value w.if-name_is.ensures (ap (placed c.args.m.now) w.found-is ∙ c.member_value-value.ensures)
-      | else-name_is w ↦ picks_found w.if-name_is.ensures (ap (placed c.args.m.now) w.found-is)
-    ])
-    c.in_default-value.ensures
+pub returns : goal.returns
+returns c = sym (c.loop-member.invariant.same ∙ found_end _ _ c.in-None.ensures.steps)

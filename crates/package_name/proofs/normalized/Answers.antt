@@ -10,4 +10,5 @@ returns-then-ends_with c =
     c.append.ensures ∙ slash_kept _ _ r (sym e ∙ c.if-ends_with.true)
 
 pub returns-else-ends_with : goal.returns-else-ends_with
-returns-else-ends_with c = no_slash _ _ _ c.normalize_relative-p.ensures (sym c.ends_with.ensures ∙ c.if-ends_with.false)
+returns-else-ends_with c =
+    no_slash _ _ _ c.normalize_relative-p.ensures (sym c.ends_with.ensures ∙ c.if-ends_with.false)

@@ -1,20 +1,17 @@
--- The name stands in front, and behind it nothing, or a slash of either kind.
-use Rattle.std.proofs.Common.{sym, ◌∙◌}
-use Rattle.package_name.proofs.Parts.{strip_other, strip_whole, strip_slash, strip_backslash, strip_longer}
+-- The name stands in front, and what is behind it says whether it is whole.
+use Rattle.std.proofs.Common.{◌∙◌, sym}
+use Rattle.definition.specs.Specifier.{strip_package_name}
+use Rattle.package_name.proofs.Parts.{prefix_is, strip_is}
 use Rattle.package_name.proofs.strip_package_name.Goals as goal
-use Rattle.package_name.proofs.strip_package_name.Goals.{else-n-s-via-then-n-s+then-s-n-ne47+else-s-n-ne92, else-n-s-via-then-n-s+else-s-n-ne47, else-n-s-via-else-n-s}
 
-pub returns-then-not-starts_with : goal.returns-then-not-starts_with
-returns-then-not-starts_with c = strip_other _ _ (sym c.starts_with.ensures ∙ c.if-not-starts_with.true)
+pub returns-in_err-tail : goal.returns-in_err-tail
+unfolding strip_package_name
+returns-in_err-tail c =
+    rw (c.from_residual.ensures, sym (prefix_is c.args.s.now c.args.name.now) ∙ c.in_err-tail.ensures.cases)
 
-pub returns-then-s-n-ne92 : goal.returns-then-s-n-ne92
-returns-then-s-n-ne92 c = strip_longer _ _ (sym c.starts_with.ensures ∙ c.if-not-starts_with.false) c.if-n-s.true c.if-s-n-ne47.true c.if-s-n-ne92.true
-
-pub returns-else-n-s : goal.returns-else-n-s
-returns-else-n-s c =
-    let h = sym c.starts_with.ensures ∙ c.if-not-starts_with.false in
-    elim c.else-n-s.branch [
-      | else-n-s-via-then-n-s+then-s-n-ne47+else-s-n-ne92 w ↦ strip_backslash _ _ h w.if-n-s.true w.if-s-n-ne92.false
-      | else-n-s-via-then-n-s+else-s-n-ne47 w ↦ strip_slash _ _ h w.if-n-s.true w.if-s-n-ne47.false
-      | else-n-s-via-else-n-s w ↦ strip_whole _ _ h w.if-n-s.false
-    ]
+pub returns : goal.returns
+returns c =
+    let h = c.in_ok-tail.ensures.cases in
+    rw c.then_some.ensures
+    (strip_is c.args.s.now c.args.name.now _ _ (sym (prefix_is c.args.s.now c.args.name.now) ∙ h.0) h.1
+    c.ends_name.ensures)

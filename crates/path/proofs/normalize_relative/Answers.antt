@@ -1,4 +1,5 @@
--- `normalize_relative`: the parts behind "/", or all of them, are pushed; they make the path no longer, so it has room for them.
+-- `normalize_relative`: the parts behind "/", or all of them, are pushed; they make the path no longer, so it has room
+-- for them.
 use native.Mathlib.Omega.{arith}
 use mathlib.Core.Path.{◌≡◌, ◌∙◌, ap}
 use Prim.Native.Nat.{◌-◌}
@@ -43,5 +44,6 @@ returns c =
     let s = (root_of_lem p).short in
     let f : limited (root_of p) ≡ built (root_of p) = limited_fits (root_of p) (omega arith) in
     let d : take (length p - length (root_of p)) (drop (length (root_of p)) p) ≡ drop (length (root_of p)) p =
-    take_all (length p - length (root_of p)) (drop (length (root_of p)) p) (omega (arith, length-drop (length (root_of p)) p)) in
+    take_all (length p - length (root_of p)) (drop (length (root_of p)) p)
+    (omega (arith, length-drop (length (root_of p)) p)) in
     c.push_relative.ensures ∙ rw (c.from-2.ensures, e, f, d, (root_of_lem p).rest, limited_fits p (omega arith))

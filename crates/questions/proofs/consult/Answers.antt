@@ -12,5 +12,6 @@ returns-then-tape-eq0-clause-done c = λ G. rw c.refuse.ensures (no_question c.i
 pub returns-clause-done : goal.returns-clause-done
 returns-clause-done c =
     λ G. done_asked G _ _ _ _ _ (omega arith)
-    (rw c.search.ensures.entry at (c.state_of-state.ensures.state c.args.l.now)) (rw c.search.ensures.entry at (c.state_of-state.ensures.number c.args.l.now))
+    (rw c.search.ensures.entry at (c.state_of-state.ensures.state c.args.l.now))
+    (rw c.search.ensures.entry at (c.state_of-state.ensures.number c.args.l.now))
     c.note.ensures.value

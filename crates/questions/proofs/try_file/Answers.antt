@@ -15,9 +15,11 @@ unfolding when
 returns-then-eq-clause-done c =
     let e = c.finish.ensures in
     λ G. rw file_asked (done_bind _ (c.in_ok-state.ensures.done G)
-    (rw (file_state _ (c.in_ok-state.ensures.not_read _ refl), ← c.if-eq.ensures) (done_finish (ends_found _) _ _ _ e.ending e.texts)))
+    (rw (file_state _ (c.in_ok-state.ensures.not_read _ refl), ← c.if-eq.ensures)
+    (done_finish (ends_found _) _ _ _ e.ending e.texts)))
 
 pub returns-clause-done : goal.returns-clause-done
 unfolding when
 returns-clause-done c =
-    λ G. rw file_asked (done_bind _ (c.in_ok-state.ensures.done G) (rw (file_state _ (c.in_ok-state.ensures.not_read _ refl), ← c.if-eq.ensures) done_ret))
+    λ G. rw file_asked (done_bind _ (c.in_ok-state.ensures.done G)
+    (rw (file_state _ (c.in_ok-state.ensures.not_read _ refl), ← c.if-eq.ensures) done_ret))

@@ -7,4 +7,5 @@ pub returns-then-is_folder-clause-done : goal.returns-then-is_folder-clause-done
 returns-then-is_folder-clause-done c = file_skipped _ _ _ (sym c.is_folder.ensures ∙ c.if-is_folder.true)
 
 pub returns-clause-done : goal.returns-clause-done
-returns-clause-done c = file_tried _ _ _ (sym c.is_folder.ensures ∙ c.if-is_folder.false) (rw c.bare.ensures at c.load_as_file.ensures.done)
+returns-clause-done c =
+    file_tried _ _ _ (sym c.is_folder.ensures ∙ c.if-is_folder.false) (rw c.bare.ensures at c.load_as_file.ensures.done)

@@ -1,4 +1,4 @@
--- The texts passed are in order, and what is left starts behind them: what a text breaks, or the length, breaks the whole.
+-- The texts passed are in order, and what is left starts behind them: what a text breaks, or the length, breaks all.
 use Rattle.std.proofs.Common.{◌≤◌, length, sym, ◌∙◌}
 use Rattle.definition.specs.Settings.{text_lengths}
 use Rattle.laws.specs.SettingsLaws.{refused_counts}

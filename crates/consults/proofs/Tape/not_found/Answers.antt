@@ -7,4 +7,5 @@ use Rattle.consults.proofs.Tape.not_found.Goals as goal
 
 pub returns-clause-done : goal.returns-clause-done
 unfolding not_found failure_of failure_texts
-returns-clause-done c L = done_finish (ends_failed (NotFound _)) _ _ _ c.finish.ensures.ending (rw c.finish.ensures.texts)
+returns-clause-done c L =
+    done_finish (ends_failed (NotFound _)) _ _ _ c.finish.ensures.ending (rw c.finish.ensures.texts)

@@ -13,7 +13,8 @@ use Rattle.exports.proofs.Field.main_of_object.Goals as goal
 pub returns-then-not-equal-clause-result_after : goal.returns-then-not-equal-clause-result_after
 returns-then-not-equal-clause-result_after c ms go h s =
     ap go (c.new.ensures _)
-    ∙ main_off c.args.self.url.now (texts_of c.args.self.settings.now 0) c.args.subpath.now fresh (main_export (obj ms)) go
+    ∙ main_off c.args.self.url.now (texts_of c.args.self.settings.now 0) c.args.subpath.now fresh
+    (main_export (obj ms)) go
     (sym c.if-not-equal.ensures)
 
 pub returns-in-Some-clause-result_after : goal.returns-in-Some-clause-result_after
@@ -36,7 +37,8 @@ returns-in-None-clause-result_after c ms go h s =
     let conditions = texts_of c.args.self.settings.now 0 in
     let sub = c.args.subpath.now in
     let dot = text "." in
-    let absent = finds_none m 14 (get dot (entries ms)) None (get_finds m c.args.self.at None dot c.in-None.ensures 14 ms h) refl in
+    let absent =
+    finds_none m 14 (get dot (entries ms)) None (get_finds m c.args.self.at None dot c.in-None.ensures 14 ms h) refl in
     ap go (c.new-in-None.ensures _)
     ∙ main_on url conditions sub fresh (main_export (obj ms)) go (sym c.if-not-equal.ensures) (nothing_yet fresh)
     (main_none url conditions ms fresh absent (sym s ∙ c.if-subpaths.true))
@@ -48,7 +50,8 @@ returns-in-None-2-clause-result_after c ms go h s =
     let conditions = texts_of c.args.self.settings.now 0 in
     let sub = c.args.subpath.now in
     let dot = text "." in
-    let absent = finds_none m 14 (get dot (entries ms)) None (get_finds m c.args.self.at None dot c.in-None.ensures 14 ms h) refl in
+    let absent =
+    finds_none m 14 (get dot (entries ms)) None (get_finds m c.args.self.at None dot c.in-None.ensures 14 ms h) refl in
     c.main_at-in-None-2.ensures.result_after (obj ms) sub go h
     ∙ main_on url conditions sub fresh (main_export (obj ms)) go (sym c.if-not-equal.ensures) _
     (main_whole url conditions ms fresh absent (sym s ∙ c.if-subpaths.false))

@@ -15,7 +15,7 @@ returns-then-are_mixed-clause-result_after c ms h =
     let url = c.args.self.url.now in
     let conditions = texts_of c.args.self.settings.now 0 in
     let sub = c.args.subpath.now in
-    let keys = c.keys_of-keys.ensures ms h in
+    let keys = c.keys-keys.ensures ms h in
     subpath_is m url sub _ c.unresolved.result c.new.result ConfigMixed c.unresolved.ensures
     ∙ ap (λ x. record { context = x; outcome = failed (InvalidPackageConfig (manifest_of url)) }) (c.new.ensures _)
     ∙ object_mixed url conditions sub fresh ms
@@ -27,9 +27,10 @@ returns-in_err-context-clause-result_after c ms h =
     let url = c.args.self.url.now in
     let conditions = texts_of c.args.self.settings.now 0 in
     let sub = c.args.subpath.now in
-    let keys = c.keys_of-keys.ensures ms h in
+    let keys = c.keys-keys.ensures ms h in
     rw c.from_residual.ensures
-    (c.in_err-context.ensures.result_after ms (then_keys url conditions sub fresh ms) h (ap (λ (k : KeyMarks). k.subpath) keys)
+    (c.in_err-context.ensures.result_after ms (then_keys url conditions sub fresh ms) h
+    (ap (λ (k : KeyMarks). k.subpath) keys)
     ∙ object_is url conditions sub fresh ms
     (ap (λ (k : KeyMarks). k.dot && k.other) (sym keys) ∙ sym c.if-are_mixed.ensures))
 
@@ -39,9 +40,10 @@ returns-clause-result_after c ms h =
     let url = c.args.self.url.now in
     let conditions = texts_of c.args.self.settings.now 0 in
     let sub = c.args.subpath.now in
-    let keys = c.keys_of-keys.ensures ms h in
+    let keys = c.keys-keys.ensures ms h in
     c.unless_nothing.ensures m url sub _ (not_exported url sub)
     ∙ ap (λ x. or_go_on x (not_exported url sub)) (c.by_keys.ensures.result_after ms h)
-    ∙ c.in_ok-context.ensures.result_after ms (then_keys url conditions sub fresh ms) h (ap (λ (k : KeyMarks). k.subpath) keys)
+    ∙ c.in_ok-context.ensures.result_after ms (then_keys url conditions sub fresh ms) h
+    (ap (λ (k : KeyMarks). k.subpath) keys)
     ∙ object_is url conditions sub fresh ms
     (ap (λ (k : KeyMarks). k.dot && k.other) (sym keys) ∙ sym c.if-are_mixed.ensures)

@@ -3,12 +3,13 @@ use Rattle.std.proofs.Common.{sym, ◌∙◌, ap, rules}
 use Rattle.definition.specs.Specifier.{parse_specifier}
 use Rattle.definition.specs.Exports.{string_target}
 use Rattle.targets.specs.Contexts.{context_of}
-use Rattle.package_target.proofs.Places.{text_short, text_target, string_is}
+use Rattle.targets.proofs.Contexts.{text_read}
+use Rattle.package_target.proofs.Places.{text_short, string_is}
 use Rattle.package_target.proofs.Resolution.string_target.Goals as goal
 
 pub returns-clause-result_after : goal.returns-clause-result_after
 returns-clause-result_after c q d s a h =
-    let m = c.args.self.manifest.now in
-    let e = text_target h _ _ c.read_text-t.result _ (search rules) c.read_text-t.ensures c.text_at.ensures in
+    let m = c.args.self.now.manifest.now in
+    let e = c.string_at-text.ensures ∙ text_read _ _ (search rules) ∙ string_is h in
     c.text_target.ensures m q a (rw e (text_short h)) (string_is h ∙ sym e)
     ∙ ap (λ t. string_target q (parse_specifier t) t (context_of m c.args.c)) e

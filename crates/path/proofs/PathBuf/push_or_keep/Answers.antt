@@ -6,7 +6,9 @@ use Rattle.path.proofs.PathBuf.push_or_keep.Goals as goal
 use Rattle.path.proofs.PathBuf.push_or_keep.Goals.{else-equal-via-then-equal+else-not-pops, else-equal-via-else-equal}
 
 pub returns-then-not-pops : goal.returns-then-not-pops
-returns-then-not-pops c = c.join.ensures ∙ relative_stays _ _ _ (sym c.equal.ensures ∙ c.if-equal.true) (λ h. sym (c.pops.ensures _ (at_fits _ _ h)) ∙ c.if-not-pops.true)
+returns-then-not-pops c = c.join.ensures
+    ∙ relative_stays _ _ _ (sym c.equal.ensures ∙ c.if-equal.true)
+    (λ h. sym (c.pops.ensures _ (at_fits _ _ h)) ∙ c.if-not-pops.true)
 
 pub returns-else-equal : goal.returns-else-equal
 returns-else-equal c =

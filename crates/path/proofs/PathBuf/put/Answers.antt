@@ -10,4 +10,5 @@ pub returns-then-t-n : goal.returns-then-t-n
 returns-then-t-n c = put_long _ _ _ (search rules) c.if-n-gt-LIMIT.false (omega arith)
 
 pub returns : goal.returns
-returns c = put_part _ _ c.args.t.now (search rules) c.if-n-gt-LIMIT.false _ c.copy_from_slice.ensures.after (omega arith)
+returns c = put_part _ _ c.args.t.now (search rules) c.if-n-gt-LIMIT.false _ c.copy_from_slice.ensures.after
+    (omega arith)

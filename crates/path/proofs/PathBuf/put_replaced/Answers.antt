@@ -11,8 +11,14 @@ loop-b-preserved c =
     let p = c.args.pattern.now in
     let t = c.args.t.now in
     elim c.if-b-eq42.branch [
-      | then-b-eq42 w ↦ rw w.self-is (grow (path_of c.loop-b.self) _ _ _ w.put.ensures ∙ rw (replace_star p t _ c.loop-b-test.true w.if-b-eq42.true) at c.loop-b.invariant)
-      | else-b-eq42 w ↦ rw w.self-is (grow (path_of c.loop-b.self) _ _ _ w.put-else-b-eq42.ensures ∙ rw (replace_other p t _ c.loop-b-test.true w.if-b-eq42.false) at c.loop-b.invariant)
+      | then-b-eq42 w ↦
+          rw w.self-is
+          (grow (path_of c.loop-b.self) _ _ _ w.put.ensures
+          ∙ rw (replace_star p t _ c.loop-b-test.true w.if-b-eq42.true) at c.loop-b.invariant)
+      | else-b-eq42 w ↦
+          rw w.self-is
+          (grow (path_of c.loop-b.self) _ _ _ w.put-else-b-eq42.ensures
+          ∙ rw (replace_other p t _ c.loop-b-test.true w.if-b-eq42.false) at c.loop-b.invariant)
     ]
 
 pub returns : goal.returns
