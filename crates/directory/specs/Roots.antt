@@ -5,7 +5,7 @@ use Rattle.std.specs.Borrow.{Bor}
 use Rattle.std.proofs.Math.Option.{Option, none, some}
 use Rattle.definition.specs.Text.{Text}
 use Rattle.definition.specs.Json.{Json, scalar, Read, got, fault, parse, settled}
-use Rattle.definition.specs.JsonAt.{Checked, rooted, faulty, check}
+use Rattle.definition.specs.JsonAt.{Checked, rooted, faulty, check, Told, text_at}
 
 -- the value of a manifest
 abbrev pub value_of : Read Json → Json
@@ -27,3 +27,8 @@ root_in m = from_root (check m)
 abbrev pub text_in : std.Option (Bor (List ℕ)) → Option Text
 text_in None = none
 text_in (Some b) = some b.now
+
+-- the text of a member, if there is one: `text_at` there
+abbrev pub told_in : Option Text → (work : Text) → Told
+told_in none w = record { text = none; work = w }
+told_in (some s) w = text_at s w

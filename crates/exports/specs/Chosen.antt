@@ -20,7 +20,7 @@ use Rattle.exports.specs.declared.Member.{Member}
 use Rattle.exports.specs.declared.Resolved.{Resolved}
 use Rattle.targets.specs.Keys.{rank_of, match_of}
 use Rattle.targets.specs.Contexts.{string_at, context_of}
-use Rattle.targets.specs.Answers.{outcome_in, text_in, Formed}
+use Rattle.targets.specs.Answers.{outcome_in, text_in, Texted, Formed}
 use Rattle.path.specs.declared.PathBuf.{PathBuf}
 use Rattle.path.specs.Meaning.{path_of}
 
@@ -108,6 +108,11 @@ abbrev pub went_on : (m url subpath : List ℕ) → PathBuf → ControlFlow Reso
     → (exports.Context → exports.Resolved) → exports.Resolved
 went_on m url subpath path (Break r) go = resolved_of m url subpath path r
 went_on m url subpath path (Continue c) go = go (context_of m c)
+
+-- where it ended with a text, the lent path is not over-long
+abbrev pub EndTexted : PathBuf → ControlFlow Resolved Context → Type 0
+EndTexted path (Break r) = Texted path r.answer.outcome
+EndTexted path (Continue c) = Unit {0}
 
 -- no query and no fragment yet
 abbrev pub fresh : exports.Context

@@ -12,10 +12,10 @@ ghost use Rattle.package_json.specs.Values as values;
 ghost use Rattle.definition.specs.Exports as exports;
 ghost use Rattle.definition.specs.Exports.{is_subpath_key, is_dot_key, any_key, Entry, entries, get, Request, better as betterOf, best as bestOf, literal, as_selected, select as selectOf, or_go_on, main_export, main_resolve, PACKAGE_TARGET_RESOLVE, PACKAGE_IMPORTS_EXPORTS_RESOLVE, PACKAGE_EXPORTS_RESOLVE};
 ghost use Rattle.targets.specs.Contexts.{string_at, context_of};
-ghost use Rattle.targets.specs.Answers.{answer_of, Asked};
+ghost use Rattle.targets.specs.Answers.{answer_of, Asked, Texted};
 ghost use Rattle.package_target.specs.Places.{Stands};
 ghost use Rattle.package_target.specs.Answers.{SameBuffers};
-ghost use Rattle.exports.specs.Chosen.{Finds, a_key, joined_keys, keys_of, BestOf, form_of, part_of, Selects, resolved_of, fresh, dot_request, went_on, not_exported, IsWhole};
+ghost use Rattle.exports.specs.Chosen.{Finds, a_key, joined_keys, keys_of, BestOf, form_of, part_of, Selects, resolved_of, fresh, dot_request, went_on, EndTexted, not_exported, IsWhole};
 
 use package_json::Kind;
 use package_target::{Buffers, Resolution};
@@ -259,7 +259,8 @@ fn unresolved(c: Context, outcome: Outcome) -> Resolved
 
 // A part of the algorithm: it ends with an answer, or goes on where it found nothing.
 fn unless_nothing(r: Resolved) -> ControlFlow<Resolved, Context>
-    ensures { (m url subpath : List ℕ) (path : PathBuf) (go : exports.Context → exports.Resolved) → went_on m url subpath path result go ≡ or_go_on (resolved_of m url subpath path r) go }
+    ensures value { (m url subpath : List ℕ) (path : PathBuf) (go : exports.Context → exports.Resolved) → went_on m url subpath path result go ≡ or_go_on (resolved_of m url subpath path r) go }
+    ensures texted { (path : PathBuf) → Texted path r.answer.outcome → EndTexted path result }
 {
     if package_target::is_nothing(r.answer.outcome) {
         ControlFlow::Continue(r.answer.context)
@@ -288,6 +289,7 @@ impl<'a> Field<'a> {
         buffers: &mut Buffers<'_>,
     ) -> Answer
         ensures result_after { (q : Request) (j : Json) → Asked q wanted.entry → q.conditions ≡ texts_of self.entry.settings.now 0 → Stands self.entry.manifest.now depth at j → answer_of self.entry.manifest.now q buffers.new.path.now result ≡ PACKAGE_TARGET_RESOLVE q j (context_of self.entry.manifest.now c) }
+        ensures texted { Texted buffers.new.path.now result.outcome }
         ensures same { SameBuffers buffers.old buffers.new }
     {
         let resolution = Resolution {
@@ -303,6 +305,7 @@ impl<'a> Field<'a> {
     // PACKAGE_IMPORTS_EXPORTS_RESOLVE
     fn by_keys(self, match_key: &'a [u8], c: Context, buffers: &mut Buffers<'_>) -> Resolved
         ensures result_after { (ms : Members) → Stands self.entry.manifest.now 15 self.entry.at (obj ms) → resolved_of self.entry.manifest.now self.entry.url.now match_key.now buffers.new.path.now result ≡ PACKAGE_IMPORTS_EXPORTS_RESOLVE self.entry.url.now (texts_of self.entry.settings.now 0) match_key.now (entries ms) (context_of self.entry.manifest.now c) }
+        ensures texted { Texted buffers.new.path.now result.answer.outcome }
         ensures same { SameBuffers buffers.old buffers.new }
     {
         let map = Map {
@@ -332,6 +335,7 @@ impl<'a> Field<'a> {
         buffers: &mut Buffers<'_>,
     ) -> ControlFlow<Resolved, Context>
         ensures result_after { (j : Json) (subpath : List ℕ) (go : exports.Context → exports.Resolved) → Stands self.entry.manifest.now depth at j → went_on self.entry.manifest.now self.entry.url.now subpath buffers.new.path.now result go ≡ or_go_on (PACKAGE_TARGET_RESOLVE (dot_request self.entry.url.now (texts_of self.entry.settings.now 0)) j fresh) go }
+        ensures texted { EndTexted buffers.new.path.now result }
         ensures same { SameBuffers buffers.old buffers.new }
     {
         unless_nothing(Resolved {
@@ -349,6 +353,7 @@ impl<'a> Field<'a> {
         buffers: &mut Buffers<'_>,
     ) -> ControlFlow<Resolved, Context>
         ensures result_after { (ms : Members) (go : exports.Context → exports.Resolved) → Stands self.entry.manifest.now 15 self.entry.at (obj ms) → subpaths ≡ any_key is_subpath_key (entries ms) → went_on self.entry.manifest.now self.entry.url.now subpath.now buffers.new.path.now result go ≡ or_go_on (main_resolve self.entry.url.now (texts_of self.entry.settings.now 0) (if equal subpath.now (text ".") then main_export (obj ms) else none) fresh) go }
+        ensures texted { EndTexted buffers.new.path.now result }
         ensures same { SameBuffers buffers.old buffers.new }
     {
         if !text::equal(subpath, b".") {
@@ -363,6 +368,7 @@ impl<'a> Field<'a> {
 
     fn object(self, subpath: &'a [u8], buffers: &mut Buffers<'_>) -> ControlFlow<Resolved, Context>
         ensures result_after { (ms : Members) → Stands self.entry.manifest.now 15 self.entry.at (obj ms) → went_on self.entry.manifest.now self.entry.url.now subpath.now buffers.new.path.now result (not_exported self.entry.url.now subpath.now) ≡ PACKAGE_EXPORTS_RESOLVE self.entry.url.now (texts_of self.entry.settings.now 0) subpath.now (obj ms) fresh }
+        ensures texted { EndTexted buffers.new.path.now result }
         ensures same { SameBuffers buffers.old buffers.new }
     {
         let map = Map {
@@ -380,6 +386,7 @@ impl<'a> Field<'a> {
     // A string or an array: the main export, and no other.
     fn whole(self, subpath: &'a [u8], buffers: &mut Buffers<'_>) -> ControlFlow<Resolved, Context>
         ensures result_after { (j : Json) → IsWhole j → Stands self.entry.manifest.now 15 self.entry.at j → went_on self.entry.manifest.now self.entry.url.now subpath.now buffers.new.path.now result (not_exported self.entry.url.now subpath.now) ≡ PACKAGE_EXPORTS_RESOLVE self.entry.url.now (texts_of self.entry.settings.now 0) subpath.now j fresh }
+        ensures texted { EndTexted buffers.new.path.now result }
         ensures same { SameBuffers buffers.old buffers.new }
     {
         if !text::equal(subpath, b".") {
@@ -391,6 +398,7 @@ impl<'a> Field<'a> {
     // The field, unless nothing was found.
     fn found(self, subpath: &'a [u8], buffers: &mut Buffers<'_>) -> ControlFlow<Resolved, Context>
         ensures result_after { (j : Json) → Stands self.entry.manifest.now 15 self.entry.at j → went_on self.entry.manifest.now self.entry.url.now subpath.now buffers.new.path.now result (not_exported self.entry.url.now subpath.now) ≡ PACKAGE_EXPORTS_RESOLVE self.entry.url.now (texts_of self.entry.settings.now 0) subpath.now j fresh }
+        ensures texted { EndTexted buffers.new.path.now result }
         ensures same { SameBuffers buffers.old buffers.new }
     {
         match package_target::kind_at(self.manifest, self.at) {
@@ -402,7 +410,8 @@ impl<'a> Field<'a> {
 }
 
 // An exports field for a subpath. The answer's path, or the target that a failure names, is in the lent path; work ends with its old length and any
-// bytes. Where no value stands at the field's place, or work has fewer than 1,024 bytes, the answer is free.
+// bytes. Where no value stands at the field's place, or work has fewer than 1,024 bytes, the answer is free. In any case, where the outcome has a text,
+// the lent path is not over-long.
 pub fn package_exports_resolve<'a>(
     field: Field<'a>,
     subpath: &'a [u8],
@@ -410,6 +419,7 @@ pub fn package_exports_resolve<'a>(
     path: &mut PathBuf,
 ) -> Resolved
     ensures result_after { (j : Json) → 1024 ≤ length work.old → values.Stands 15 (drop field.entry.at field.entry.manifest.now) j → resolved_of field.entry.manifest.now field.entry.url.now subpath.now path.new result ≡ PACKAGE_EXPORTS_RESOLVE field.entry.url.now (settings_of field.entry.settings.now).conditions subpath.now j fresh }
+    ensures texted { Texted path.new result.answer.outcome }
     ensures work_len_unchanged { length work.new ≡ length work.old }
 {
     let Some(work) = work.first_chunk_mut() else {

@@ -25,9 +25,13 @@ fn skip_while<F: Fn(u8) -> bool>(m: &[u8], at: usize, test: F) -> usize
     requires { F.IsAlwaysCallable test }
     ensures { (p : ℕ → Bool) → ((b : ℕ) (r : Bool) → F.post test b r → r ≡ p b) → after_all p (drop at m.now) ≡ drop result m.now }
 {
-    (at..m.len())
-        .find(|&i| !test(m[i]))
-        .unwrap_or(at.max(m.len()))
+    // By `find` over the places a digit takes up to twice as long.
+    for i in at..m.len() {
+        if !test(m[i]) {
+            return i;
+        }
+    }
+    at.max(m.len())
 }
 
 // The place of the first byte from `at` on that is no white space.

@@ -93,10 +93,10 @@ fn reach(at: usize, k: usize, len: usize) -> usize
 
 // Where an entry's path ends, and its contents.
 #[derive(Clone, Copy)]
-struct Place {
-    end: usize,
-    next: usize,
-    directory: bool,
+pub struct Place {
+    pub end: usize,
+    pub next: usize,
+    pub directory: bool,
 }
 
 // What a search finds: a file's contents are l[start..end].

@@ -20,7 +20,7 @@ pub struct Spot<'a> {
 
 impl<'a> Spot<'a> {
     // The first entry, or the place behind none.
-    pub fn first(listing: &'a [u8], count: usize) -> Option<Self>
+    pub(super) fn first(listing: &'a [u8], count: usize) -> Option<Self>
         requires { count ≡ entry_count listing.now }
         ensures { IfSome result (λ s. (s.listing.now ≡ listing.now) × (s.index ≡ 0) × (s.count ≡ count)) }
     {
@@ -36,7 +36,7 @@ impl<'a> Spot<'a> {
     }
 
     // Where the path ends.
-    pub fn end(self) -> usize
+    pub(super) fn end(self) -> usize
         requires { self.index < self.count }
         ensures is { result ≡ self.entry.at + path_length_at self.entry.listing.now self.entry.index }
         ensures small { result < self.entry.at + 4294967296 }
@@ -46,7 +46,7 @@ impl<'a> Spot<'a> {
 
     // The number that the listing has for the contents. Its table is cut off first, which the loops do once: read at 8 + 4 * count + 4 * index, a
     // search in vain took a third longer.
-    pub fn mark(self) -> usize
+    pub(super) fn mark(self) -> usize
         requires { self.index < self.count }
         ensures is { result ≡ contents_mark_at self.entry.listing.now self.entry.index }
         ensures small { result < 4294967296 }
@@ -56,7 +56,7 @@ impl<'a> Spot<'a> {
     }
 
     // The entry behind it.
-    pub fn next(self) -> Self
+    pub(super) fn next(self) -> Self
         requires { self.index < self.count }
         ensures { (result.listing.now ≡ self.entry.listing.now) × (result.count ≡ self.entry.count) × (result.index ≡ self.entry.index + 1) }
     {

@@ -67,7 +67,7 @@ impl Words {
     }
 
     // Whether its first 32 bytes show that a text is below the one of those words; false says nothing.
-    pub fn surely_below(self, p: &[u8]) -> bool
+    pub(super) fn surely_below(self, p: &[u8]) -> bool
         requires { 32 ≤ length p.now }
         ensures { result ≡ true → (q : List ℕ) → WordsOf q self → smaller p.now q ≡ true }
     {

@@ -59,7 +59,7 @@ impl<'a> EntriesLeft<'a> {
     ghost use Rattle.listing_check.specs.Meaning.{rows_left};
 
     // All of them.
-    pub fn new(listing: &'a [u8]) -> Self
+    pub(super) fn new(listing: &'a [u8]) -> Self
         requires { sizes_fit listing.now ≡ true }
         ensures { rows_left result ≡ rows listing.now }
     {

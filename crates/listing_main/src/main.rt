@@ -3,15 +3,38 @@
 
 use listing::Found;
 use refusal::Refusal;
-use std::alloc::{AllocError, Global};
-use std::io;
+use std::{array, io};
 
 type Text = &'static [u8];
 
 // An entry of a listing: a directory's path, or a file's with the file's contents.
-enum Entry {
-    Directory(Text),
-    File(Text, Text),
+#[derive(Clone, Copy)]
+enum Entry<'a> {
+    Directory(&'a [u8]),
+    File(&'a [u8], &'a [u8]),
+}
+
+impl<'a> Entry<'a> {
+    fn path(self) -> &'a [u8] {
+        match self {
+            Entry::Directory(path) | Entry::File(path, _) => path,
+        }
+    }
+
+    fn contents(self) -> &'a [u8] {
+        match self {
+            Entry::Directory(_) => b"",
+            Entry::File(_, contents) => contents,
+        }
+    }
+
+    // What the listing has for the length of its contents.
+    fn mark(self) -> u32 {
+        match self {
+            Entry::Directory(_) => u32::MAX,
+            Entry::File(_, contents) => number(contents.len()),
+        }
+    }
 }
 
 // What a search finds at a path.
@@ -22,7 +45,7 @@ enum Sought {
 }
 
 // A listing in order.
-const PRINTED: &[Entry] = &[
+const PRINTED: &[Entry<'static>] = &[
     Entry::Directory(b"/"),
     Entry::Directory(b"/p"),
     Entry::Directory(b"/p/node_modules"),
@@ -36,7 +59,7 @@ const PRINTED: &[Entry] = &[
 ];
 
 // One in which a number or the length is changed.
-const ALTERED: &[Entry] = &[
+const ALTERED: &[Entry<'static>] = &[
     Entry::Directory(b"/"),
     Entry::Directory(b"/a"),
     Entry::File(b"/a/package.json", b"{}"),
@@ -88,7 +111,7 @@ const LIMITS: &[(Size, Result<(), Refusal>)] = &[
 ];
 
 // Names with dots and beyond ASCII, an empty manifest, a name that "/" sorts before, a longer name than package.json.
-const ACCEPTED: &[&[Entry]] = &[
+const ACCEPTED: &[&[Entry<'static>]] = &[
     &[Entry::Directory(b"/")],
     &[
         Entry::Directory(b"/"),
@@ -112,7 +135,7 @@ const ACCEPTED: &[&[Entry]] = &[
 ];
 
 // No entry; contents elsewhere than in a manifest, alone and beside a fault of order or a directory of that name.
-const BAD_SIZES: &[&[Entry]] = &[
+const BAD_SIZES: &[&[Entry<'static>]] = &[
     &[],
     &[Entry::Directory(b"/"), Entry::File(b"/a", b"x")],
     &[Entry::Directory(b"/"), Entry::File(b"/xpackage.json", b"x")],
@@ -129,7 +152,7 @@ const BAD_SIZES: &[&[Entry]] = &[
 ];
 
 // The first entry; empty, relative, "/" at the end or twice; dots; byte 0; not UTF-8.
-const BAD_PATHS: &[&[Entry]] = &[
+const BAD_PATHS: &[&[Entry<'static>]] = &[
     &[Entry::Directory(b"/a")],
     &[Entry::File(b"/", b"")],
     &[Entry::File(b"", b"")],
@@ -165,7 +188,7 @@ const BAD_PATHS: &[&[Entry]] = &[
 ];
 
 // Order; twice the same; no parent; a file as parent; all beside a directory named package.json.
-const BAD_ORDER: &[&[Entry]] = &[
+const BAD_ORDER: &[&[Entry<'static>]] = &[
     &[
         Entry::Directory(b"/"),
         Entry::File(b"/b", b""),
@@ -213,7 +236,7 @@ const BAD_ORDER: &[&[Entry]] = &[
     ],
 ];
 
-const MANIFEST_DIRECTORIES: &[&[Entry]] = &[
+const MANIFEST_DIRECTORIES: &[&[Entry<'static>]] = &[
     &[Entry::Directory(b"/"), Entry::Directory(b"/package.json")],
     &[
         Entry::Directory(b"/"),
@@ -277,7 +300,7 @@ const CUT_IN_LENGTHS: &[Sought] = &[
 ];
 
 // Paths that do not rise: the first path not below the one sought decides.
-const FALLING: &[Entry] = &[
+const FALLING: &[Entry<'static>] = &[
     Entry::Directory(b"/"),
     Entry::File(b"/c", b""),
     Entry::File(b"/b", b""),
@@ -292,7 +315,7 @@ const FALLING_SEARCHED: &[Sought] = &[
     Sought::Absent(b"/d"),
 ];
 
-const EQUAL_PATHS: &[Entry] = &[
+const EQUAL_PATHS: &[Entry<'static>] = &[
     Entry::Directory(b"/"),
     Entry::File(b"/a", b"x"),
     Entry::File(b"/a", b"y"),
@@ -307,7 +330,7 @@ const EQUAL_PATHS_SEARCHED: &[Sought] = &[
     Sought::Absent(b"/c"),
 ];
 
-const BEGINNINGS: &[Entry] = &[
+const BEGINNINGS: &[Entry<'static>] = &[
     Entry::File(b"/ab", b"x"),
     Entry::File(b"/a", b"y"),
     Entry::File(b"/abc", b"z"),
@@ -321,7 +344,7 @@ const BEGINNINGS_SEARCHED: &[Sought] = &[
     Sought::Absent(b"/"),
 ];
 
-const EMPTY_FIRST: &[Entry] = &[
+const EMPTY_FIRST: &[Entry<'static>] = &[
     Entry::File(b"", b"x"),
     Entry::File(b"", b"y"),
     Entry::Directory(b"/"),
@@ -329,12 +352,12 @@ const EMPTY_FIRST: &[Entry] = &[
 
 const EMPTY_FIRST_SEARCHED: &[Sought] = &[Sought::File(b"", b"x"), Sought::Directory(b"/")];
 
-const EMPTY_LAST: &[Entry] = &[Entry::Directory(b"/"), Entry::File(b"", b"x")];
+const EMPTY_LAST: &[Entry<'static>] = &[Entry::Directory(b"/"), Entry::File(b"", b"x")];
 
 const EMPTY_LAST_SEARCHED: &[Sought] = &[Sought::Absent(b""), Sought::Directory(b"/")];
 
 // Over 32 bytes in common.
-const FAR_IN_COMMON: &[Entry] = &[
+const FAR_IN_COMMON: &[Entry<'static>] = &[
     Entry::File(b"/p/node_modules/element-beam/lib/b.js", b"x"),
     Entry::File(b"/p/node_modules/element-beam/lib/a.js", b"y"),
     Entry::File(b"/p/node_modules/element-beam/lib/c.js", b"z"),
@@ -348,7 +371,7 @@ const FAR_IN_COMMON_SEARCHED: &[Sought] = &[
 ];
 
 // Two files with contents between two without, and where the contents of each start and end.
-const FILES: &[Entry] = &[
+const FILES: &[Entry<'static>] = &[
     Entry::Directory(b"/"),
     Entry::File(b"/a", b""),
     Entry::File(b"/b", b"xy"),
@@ -367,72 +390,64 @@ const NO_BYTES: &[Sought] = &[Sought::Absent(b"/"), Sought::Absent(b"")];
 
 const ONE_BYTE: &[Sought] = &[Sought::Absent(b"/"), Sought::File(b"", b"")];
 
-// A listing that is being written: its two arrays, and its texts.
-#[derive(Drop)]
-struct Writer {
-    count: u32,
-    path_lengths: Vec<u8>,
-    marks: Vec<u8>,
-    texts: Vec<u8>,
-}
+// As many bytes has the longest listing here, and as many have room for those with a few entries.
+const MOST: usize = 65537;
 
-impl Writer {
-    fn new(alloc: Global) -> Writer {
-        Writer {
-            count: 0,
-            path_lengths: Vec::new(alloc),
-            marks: Vec::new(alloc),
-            texts: Vec::new(alloc),
-        }
-    }
-
-    fn entry(&mut self, path: &[u8], mark: u32, contents: &[u8]) -> Result<(), AllocError> {
-        self.count = self.count.saturating_add(1);
-        self.path_lengths
-            .extend_from_slice(&number(path.len()).to_le_bytes())?;
-        self.marks.extend_from_slice(&mark.to_le_bytes())?;
-        self.texts.extend_from_slice(path)?;
-        self.texts.extend_from_slice(contents)
-    }
-
-    fn directory(&mut self, path: &[u8]) -> Result<(), AllocError> {
-        self.entry(path, u32::MAX, b"")
-    }
-
-    fn file(&mut self, path: &[u8], contents: &[u8]) -> Result<(), AllocError> {
-        self.entry(path, number(contents.len()), contents)
-    }
-
-    // The listing: the two sizes, the arrays, the texts.
-    fn written(&self, alloc: Global) -> Result<Vec<u8>, AllocError> {
-        let mut listing = Vec::new(alloc);
-        listing.extend_from_slice(&self.count.to_le_bytes())?;
-        listing.extend_from_slice(&number(self.texts.len()).to_le_bytes())?;
-        listing.extend_from_slice(&self.path_lengths)?;
-        listing.extend_from_slice(&self.marks)?;
-        listing.extend_from_slice(&self.texts)?;
-        Ok(listing)
-    }
-}
+const FEW: usize = 1024;
 
 // A length as a number of a listing; no text here is longer.
 fn number(length: usize) -> u32 {
     u32::try_from(length).unwrap_or(u32::MAX)
 }
 
-fn listing_of(alloc: Global, entries: &[Entry]) -> Result<Vec<u8>, AllocError> {
-    let mut writer = Writer::new(alloc);
-    for entry in entries {
-        match *entry {
-            Entry::Directory(path) => writer.directory(path)?,
-            Entry::File(path, contents) => writer.file(path, contents)?,
-        }
+// A buffer that is being written, as far as it reaches.
+#[derive(Drop)]
+struct Writer<'a> {
+    room: &'a mut [u8],
+    at: usize,
+}
+
+impl<'a> Writer<'a> {
+    fn put(&mut self, bytes: &[u8]) {
+        text::copy_at(self.room, self.at, bytes);
+        self.at = self.at.saturating_add(bytes.len());
     }
-    writer.written(alloc)
+
+    fn put_number(&mut self, number: u32) {
+        self.put(&number.to_le_bytes());
+    }
+
+    fn written(self) -> &'a [u8] {
+        let Writer { room, at } = self;
+        text::part(room, 0, at)
+    }
+}
+
+// The listing of some entries, in a buffer: the two sizes, the arrays, the texts.
+fn listing_of<'a>(entries: &[Entry<'_>], room: &'a mut [u8]) -> &'a [u8] {
+    let mut texts: usize = 0;
+    for entry in entries {
+        texts = texts.saturating_add(entry.path().len());
+        texts = texts.saturating_add(entry.contents().len());
+    }
+    let mut writer = Writer { room, at: 0 };
+    writer.put_number(number(entries.len()));
+    writer.put_number(number(texts));
+    for entry in entries {
+        writer.put_number(number(entry.path().len()));
+    }
+    for entry in entries {
+        writer.put_number(entry.mark());
+    }
+    for entry in entries {
+        writer.put(entry.path());
+        writer.put(entry.contents());
+    }
+    writer.written()
 }
 
 // The group's name, and how many of its rows are as expected; or after how many one was not.
-fn report<T, F: Fn(&T) -> Result<bool, AllocError>>(
+fn report<T, F: Fn(&T) -> bool>(
     rt: &impl Print,
     name: &str,
     rows: &[T],
@@ -441,7 +456,7 @@ fn report<T, F: Fn(&T) -> Result<bool, AllocError>>(
     requires { F.IsAlwaysCallable is_expected }
 {
     for (n, row) in rows.iter().enumerate() {
-        if !is_expected(row)? {
+        if !is_expected(row) {
             return println!(rt; "{name}: not as expected after {n}");
         }
     }
@@ -449,98 +464,117 @@ fn report<T, F: Fn(&T) -> Result<bool, AllocError>>(
 }
 
 fn report_checks(
-    rt: &(impl Print + AllocGlobal),
+    rt: &impl Print,
     name: &str,
-    rows: &[&[Entry]],
+    rows: &[&[Entry<'_>]],
     wanted: Result<(), Refusal>,
 ) -> io::Result<()> {
-    let alloc = rt.alloc();
-    report(
-        rt,
-        name,
-        rows,
-        |entries| Ok(listing_check::check(&listing_of(alloc, entries)?) == wanted),
-    )
-}
-
-// A good listing, and what is left of it cut off behind each of its bytes.
-fn report_cuts(rt: &(impl Print + AllocGlobal)) -> io::Result<()> {
-    let listing = listing_of(rt.alloc(), PRINTED)?;
-    let lengths = (0..listing.len()).collect::<Vec<usize>>(rt.alloc())?;
-    let whole = listing_check::check(&listing);
-    report(rt, "cut off", &lengths, |n| {
-        Ok(
-            whole == Ok(())
-                && listing_check::check(text::part(&listing, 0, *n)) == Err(Refusal::Sizes),
-        )
+    report(rt, name, rows, |entries| {
+        listing_check::check(listing_of(entries, &mut [0; FEW])) == wanted
     })
 }
 
-fn altered(alloc: Global, change: &Change) -> Result<Vec<u8>, AllocError> {
-    let mut listing = listing_of(alloc, ALTERED)?;
-    match *change {
-        Change::Number(at, x) => {
-            if let Some((_, rest)) = listing.as_mut_slice().split_at_mut_checked(at)
-                && let Some(place) = rest.first_chunk_mut()
-            {
-                *place = x.to_le_bytes();
-            }
-        }
-        Change::OneMore => listing.push(0)?,
-        Change::OneLess => {
-            let _ = listing.pop();
-        }
+// A good listing, and what is left of it cut off behind each of its bytes.
+fn report_cuts(rt: &impl Print) -> io::Result<()> {
+    let mut room = [0; FEW];
+    let listing = listing_of(PRINTED, &mut room);
+    let mut lengths = [0; FEW];
+    for (n, length) in lengths.iter_mut().enumerate() {
+        *length = n;
     }
-    Ok(listing)
+    let whole = listing_check::check(listing);
+    report(rt, "cut off", &lengths[..listing.len().min(FEW)], |n| {
+        whole == Ok(()) && listing_check::check(text::part(listing, 0, *n)) == Err(Refusal::Sizes)
+    })
+}
+
+fn is_told(change: &Change, wanted: Result<(), Refusal>) -> bool {
+    let mut room = [0; FEW];
+    let len = listing_of(ALTERED, &mut room).len();
+    let len = match *change {
+        Change::Number(at, x) => {
+            text::copy_at(&mut room, at, &x.to_le_bytes());
+            len
+        }
+        Change::OneMore => len.saturating_add(1),
+        Change::OneLess => len.saturating_sub(1),
+    };
+    listing_check::check(text::part(&room, 0, len)) == wanted
 }
 
 // The root and a file whose path has so many bytes.
-fn put_long_path(writer: &mut Writer, alloc: Global, size: usize) -> Result<(), AllocError> {
-    let mut path = vec![in alloc; b'a'; size]?;
-    if let Some(first) = path.first_mut() {
-        *first = b'/';
-    }
-    writer.directory(b"/")?;
-    writer.file(&path, b"")
+fn of_long_path(size: usize, room: &mut [u8]) -> &[u8] {
+    let mut path = [b'a'; FEW + 1];
+    path[0] = b'/';
+    let entries = [
+        Entry::Directory(b"/"),
+        Entry::File(text::part(&path, 0, size), b""),
+    ];
+    listing_of(&entries, room)
 }
 
 // The root, and below it directories, each in the one before.
-fn put_nested(writer: &mut Writer, alloc: Global, depth: usize) -> Result<(), AllocError> {
-    let mut path = Vec::new(alloc);
-    writer.directory(b"/")?;
-    for _ in 0..depth {
-        path.extend_from_slice(b"/a")?;
-        writer.directory(&path)?;
-    }
-    Ok(())
+fn of_nested(depth: usize, room: &mut [u8]) -> &[u8] {
+    let path = [*b"/a"; 64];
+    let path = path.as_flattened();
+    let entries: [Entry<'_>; 64] = array::from_fn(|i| Entry::Directory(nested(path, i)));
+    listing_of(&entries[..depth.min(63) + 1], room)
+}
+
+// A path with so many of a path's components of two bytes; with none, the root.
+fn nested(path: &[u8], depth: usize) -> &[u8] {
+    text::part(path, 0, depth.saturating_mul(2).max(1))
 }
 
 // The root and files, so many entries in all. A name is a number with two digits of base 64.
-fn put_files(writer: &mut Writer, entries: usize) -> Result<(), AllocError> {
+fn of_files(entries: usize, room: &mut [u8]) -> &[u8] {
     let digit = |n: usize| b'0' + (n % 64) as u8;
-    writer.directory(b"/")?;
+    let files = entries.saturating_sub(1);
+    let mut writer = Writer { room, at: 0 };
+    writer.put_number(number(entries));
+    writer.put_number(number(files.saturating_mul(3).saturating_add(1)));
+    writer.put_number(1);
+    for _ in 0..files {
+        writer.put_number(3);
+    }
+    writer.put_number(u32::MAX);
+    for _ in 0..files {
+        writer.put_number(0);
+    }
+    writer.put(b"/");
     for i in 1..entries {
-        writer.file(&[b'/', digit(i / 64), digit(i)], b"")?;
+        writer.put(&[b'/', digit(i / 64), digit(i)]);
     }
-    Ok(())
+    writer.written()
 }
 
-// The root and a manifest, so many bytes in all.
-fn put_whole(writer: &mut Writer, alloc: Global, size: usize) -> Result<(), AllocError> {
-    let contents = vec![in alloc; b' '; size.saturating_sub(38)]?;
-    writer.directory(b"/")?;
-    writer.file(b"/package.json", &contents)
+// The root and a manifest of spaces, so many bytes in all, in a buffer of spaces.
+fn of_whole(size: usize, room: &mut [u8]) -> &[u8] {
+    let contents = size.saturating_sub(38);
+    let mut writer = Writer { room, at: 0 };
+    for n in [
+        2,
+        number(contents.saturating_add(14)),
+        1,
+        13,
+        u32::MAX,
+        number(contents),
+    ] {
+        writer.put_number(n);
+    }
+    writer.put(b"/");
+    writer.put(b"/package.json");
+    writer.at = size;
+    writer.written()
 }
 
-fn sized(alloc: Global, size: &Size) -> Result<Vec<u8>, AllocError> {
-    let mut writer = Writer::new(alloc);
+fn sized<'a>(size: &Size, room: &'a mut [u8]) -> &'a [u8] {
     match *size {
-        Size::Path(n) => put_long_path(&mut writer, alloc, n)?,
-        Size::Depth(n) => put_nested(&mut writer, alloc, n)?,
-        Size::Entries(n) => put_files(&mut writer, n)?,
-        Size::Whole(n) => put_whole(&mut writer, alloc, n)?,
+        Size::Path(n) => of_long_path(n, room),
+        Size::Depth(n) => of_nested(n, room),
+        Size::Entries(n) => of_files(n, room),
+        Size::Whole(n) => of_whole(n, room),
     }
-    writer.written(alloc)
 }
 
 fn is_found(listing: &[u8], sought: &Sought) -> bool {
@@ -555,19 +589,20 @@ fn is_found(listing: &[u8], sought: &Sought) -> bool {
 }
 
 fn report_found(rt: &impl Print, name: &str, listing: &[u8], rows: &[Sought]) -> io::Result<()> {
-    report(rt, name, rows, |sought| Ok(is_found(listing, sought)))
+    report(rt, name, rows, |sought| is_found(listing, sought))
 }
 
 // In what is left of a listing without its last bytes.
 fn report_searches(
-    rt: &(impl Print + AllocGlobal),
+    rt: &impl Print,
     name: &str,
-    entries: &[Entry],
+    entries: &[Entry<'_>],
     less: usize,
     rows: &[Sought],
 ) -> io::Result<()> {
-    let listing = listing_of(rt.alloc(), entries)?;
-    let rest = text::part(&listing, 0, listing.len().saturating_sub(less));
+    let mut room = [0; FEW];
+    let listing = listing_of(entries, &mut room);
+    let rest = text::part(listing, 0, listing.len().saturating_sub(less));
     report_found(rt, name, rest, rows)
 }
 
@@ -579,21 +614,17 @@ fn stands(listing: &[u8], path: &[u8], wanted_start: usize, wanted_end: usize) -
     }
 }
 
-fn checks(rt: &(impl Print + AllocGlobal)) -> io::Result<()> {
-    let alloc = rt.alloc();
+fn checks(rt: &impl Print) -> io::Result<()> {
     report_cuts(rt)?;
     report(
         rt,
         "sizes",
         CHANGES,
-        |(change, wanted)| Ok(listing_check::check(&altered(alloc, change)?) == *wanted),
+        |(change, wanted)| is_told(change, *wanted),
     )?;
-    report(
-        rt,
-        "limits",
-        LIMITS,
-        |(size, wanted)| Ok(listing_check::check(&sized(alloc, size)?) == *wanted),
-    )?;
+    report(rt, "limits", LIMITS, |(size, wanted)| {
+        listing_check::check(sized(size, &mut [b' '; MOST])) == *wanted
+    })?;
     report_checks(rt, "accepted", ACCEPTED, Ok(()))?;
     report_checks(rt, "30", BAD_SIZES, Err(Refusal::Sizes))?;
     report_checks(rt, "31, paths", BAD_PATHS, Err(Refusal::Order))?;
@@ -606,7 +637,7 @@ fn checks(rt: &(impl Print + AllocGlobal)) -> io::Result<()> {
     )
 }
 
-fn searches(rt: &(impl Print + AllocGlobal)) -> io::Result<()> {
+fn searches(rt: &impl Print) -> io::Result<()> {
     report_searches(rt, "search", PRINTED, 0, SEARCHED)?;
     report_searches(rt, "search, cut in contents", PRINTED, 10, CUT_IN_CONTENTS)?;
     report_searches(rt, "search, cut in a path", PRINTED, 40, CUT_IN_PATH)?;
@@ -645,10 +676,11 @@ fn searches(rt: &(impl Print + AllocGlobal)) -> io::Result<()> {
     )
 }
 
-fn places(rt: &(impl Print + AllocGlobal)) -> io::Result<()> {
-    let listing = listing_of(rt.alloc(), FILES)?;
+fn places(rt: &impl Print) -> io::Result<()> {
+    let mut room = [0; FEW];
+    let listing = listing_of(FILES, &mut room);
     report(rt, "search, places", PLACES, |(path, start, end)| {
-        Ok(stands(&listing, path, *start, *end))
+        stands(listing, path, *start, *end)
     })
 }
 

@@ -256,6 +256,15 @@ fn is(p: PathBuf, wanted: &[u8]) -> bool {
     p.as_slice() == Some(wanted)
 }
 
+// As a path, and into a buffer of eight bytes.
+fn is_dotted(subpath: &[u8], wanted: &[u8]) -> bool {
+    let mut buffer = [0u8; 8];
+    let n = package_name::dot_subpath(subpath, &mut buffer);
+    is(package_name::dotted(subpath), wanted)
+        && n == wanted.len()
+        && path::first(&buffer, n) == path::first(wanted, 8)
+}
+
 fn is_path_row(row: &PathRow) -> bool {
     match *row {
         PathRow::IsInvalidExportsTarget(target, wanted) => path::is_invalid_exports_target(target)
@@ -434,7 +443,7 @@ fn package_names(rt: &impl Print) -> io::Result<()> {
         rt,
         "dotted subpath",
         DOTTED,
-        |(subpath, wanted)| is(package_name::dotted(subpath), wanted),
+        |(subpath, wanted)| is_dotted(subpath, wanted),
     )?;
     report(
         rt,

@@ -12,34 +12,84 @@
 //   element   text, i, manifest: the text of the root's i-th element
 #![tactic(auto)]
 
-use anyhow::{Context, Result, bail};
-use package_json::Kind;
-use std::alloc::{AllocError, Global};
+ghost use Rattle.std.specs.Prelude.{◌<◌};
 
-// The bytes that a field stands for.
-fn expanded(alloc: Global, field: &str) -> Result<Vec<u8>> {
-    let mut bytes = Vec::new(alloc);
-    let mut pieces = field.split('~');
-    if let Some(first) = pieces.next() {
-        bytes.extend_from_slice(first.as_bytes())?;
+use arrayvec::ArrayVec;
+use package_json::Kind;
+use std::io;
+use std::io::{Read, Write};
+
+// As many bytes of standard input are read.
+const MOST: u64 = 65536;
+
+// As many bytes of a text to be read are kept, and of a text that a reader is to give.
+const ROOM: usize = 20000;
+
+const WANTED_ROOM: usize = 64;
+
+// The i-th field of a row, empty where the row has fewer.
+fn field(row: &[u8], i: usize) -> &[u8] {
+    row.split(|b| *b == b'\t').nth(i).unwrap_or_default()
+}
+
+// The number that a text begins with, modulo 100,000. Each byte from "0" on counts as a digit, one above "9" as more than nine.
+fn number(text: &[u8]) -> usize {
+    let mut n: usize = 0;
+    for b in text {
+        if *b < b'0' {
+            return n;
+        }
+        n = (10 * n + usize::from(*b - b'0')) % 100000;
     }
-    for piece in pieces {
-        let (digits, others) = piece.split_at_checked(2).context("an escape is cut off")?;
-        bytes.push(u8::from_str_radix(digits, 16)?)?;
-        bytes.extend_from_slice(others.as_bytes())?;
+    n
+}
+
+// The value of a digit of an escape, a letter in lower case; any other byte has one too.
+fn digit(b: u8) -> u8
+    ensures { result < 16 }
+{
+    if b >= b'a' { (b - 87) % 16 } else { b % 16 }
+}
+
+// The byte that a text's first one or, behind "~", first three stand for, and what is behind. A digit that is missing counts as 0.
+fn meant(text: &[u8]) -> Option<(u8, &[u8])> {
+    match text {
+        [b'~', high, low, others @ ..] => Some((16 * digit(*high) + digit(*low), others)),
+        [b'~', high] => Some((16 * digit(*high), &[])),
+        [b'~'] => Some((0, &[])),
+        [b, others @ ..] => Some((*b, others)),
+        [] => None,
     }
-    Ok(bytes)
+}
+
+// Puts what a field stands for behind a text, as far as there is room.
+fn expand<const N: usize>(text: &mut ArrayVec<u8, N>, field: &[u8]) {
+    let mut left = field;
+    for _ in 0..field.len() {
+        let Some((b, others)) = meant(left) else {
+            break;
+        };
+        if text.try_push(b).is_err() {
+            break;
+        }
+        left = others;
+    }
+}
+
+fn expanded<const N: usize>(field: &[u8]) -> ArrayVec<u8, N> {
+    let mut text = ArrayVec::new();
+    expand(&mut text, field);
+    text
 }
 
 // A head, a part so many times, and a tail.
-fn repeated(alloc: Global, head: &str, times: &str, part: &str, tail: &str) -> Result<Vec<u8>> {
-    let mut bytes = expanded(alloc, head)?;
-    let part = expanded(alloc, part)?;
-    for _ in 0..times.parse::<usize>()? {
-        bytes.extend_from_slice(&part)?;
+fn repeated(head: &[u8], times: usize, part: &[u8], tail: &[u8]) -> ArrayVec<u8, ROOM> {
+    let mut text = expanded(head);
+    for _ in 0..times {
+        expand(&mut text, part);
     }
-    bytes.extend_from_slice(&expanded(alloc, tail)?)?;
-    Ok(bytes)
+    expand(&mut text, tail);
+    text
 }
 
 // Whether a text is accepted, and no start of it.
@@ -48,17 +98,14 @@ fn has_no_start(text: &[u8]) -> bool {
         && (0..text.len()).all(|n| package_json::package_json_check(&text[..n]) == 7)
 }
 
-fn member_named(manifest: &[u8], name: &str) -> Option<usize> {
-    package_json::get(manifest, 0, name.as_bytes())
-}
-
-fn kind_letter(manifest: &[u8], at: usize) -> &str {
-    match package_json::kind_at(manifest, at) {
-        Some(Kind::Scalar) => "0",
-        Some(Kind::String) => "s",
-        Some(Kind::Array) => "a",
-        Some(Kind::Object) => "o",
-        None => "-",
+fn kind_letter(manifest: &[u8], name: &[u8]) -> u8 {
+    let member = package_json::get(manifest, 0, name);
+    match member.and_then(|at| package_json::kind_at(manifest, at)) {
+        Some(Kind::Scalar) => b'0',
+        Some(Kind::String) => b's',
+        Some(Kind::Array) => b'a',
+        Some(Kind::Object) => b'o',
+        None => b'-',
     }
 }
 
@@ -72,64 +119,59 @@ fn has_text(manifest: &[u8], at: Option<usize>, wanted: &[u8]) -> bool {
     json_text::text_at(manifest, &work, text) == wanted
 }
 
-fn is_expected(alloc: Global, row: &str) -> Result<bool> {
-    let fields: Vec<&str> = row.split('\t').collect(alloc)?;
-    Ok(match fields.as_slice() {
-        ["check", number, text] => {
-            package_json::package_json_check(&expanded(alloc, text)?) == number.parse()?
-        }
-        ["check", number, head, times, part, tail] => {
-            let text = repeated(alloc, head, times, part, tail)?;
-            package_json::package_json_check(&text) == number.parse()?
-        }
-        ["prefixes", text] => has_no_start(&expanded(alloc, text)?),
-        ["kind", letter, name, manifest] => {
-            let manifest = expanded(alloc, manifest)?;
-            member_named(&manifest, name).map_or("-", |at| kind_letter(&manifest, at)) == *letter
-        }
-        ["text", text, name, manifest] => {
-            let manifest = expanded(alloc, manifest)?;
-            has_text(
-                &manifest,
-                member_named(&manifest, name),
-                &expanded(alloc, text)?,
-            )
-        }
-        ["name", text, i, manifest] => {
-            let manifest = expanded(alloc, manifest)?;
-            let member = package_json::member(&manifest, 0, i.parse()?);
-            has_text(&manifest, member, &expanded(alloc, text)?)
-        }
-        ["element", text, i, manifest] => {
-            let manifest = expanded(alloc, manifest)?;
-            let element = package_json::element(&manifest, 0, i.parse()?);
-            has_text(&manifest, element, &expanded(alloc, text)?)
-        }
-        _ => bail!("nothing is asked"),
-    })
+// The rows of the readers.
+fn is_read(row: &[u8]) -> bool {
+    let which = field(row, 2);
+    let manifest = expanded::<ROOM>(field(row, 3));
+    let wanted = expanded::<WANTED_ROOM>(field(row, 1));
+    let at = match row {
+        [b'k', ..] => return field(row, 1).first() == Some(&kind_letter(&manifest, which)),
+        [b't', ..] => package_json::get(&manifest, 0, which),
+        [b'n', ..] => package_json::member(&manifest, 0, number(which)),
+        [b'e', ..] => package_json::element(&manifest, 0, number(which)),
+        _ => return false,
+    };
+    has_text(&manifest, at, &wanted)
 }
 
-fn report(rt: &impl Print, expected: usize) -> Result<()> {
-    println!(rt; ": {expected} as expected")?;
-    Ok(())
+// A row's first letter says what is asked.
+fn is_expected(row: &[u8]) -> bool {
+    match row {
+        [b'c', ..] => {
+            let times = number(field(row, 3));
+            let text = repeated(field(row, 2), times, field(row, 4), field(row, 5));
+            usize::from(package_json::package_json_check(&text)) == number(field(row, 1))
+        }
+        [b'p', ..] => has_no_start(&expanded::<ROOM>(field(row, 1))),
+        _ => is_read(row),
+    }
 }
 
-fn main(rt: HostRuntime) -> Result<()> {
-    let alloc = rt.alloc();
-    let mut expected = None;
-    for line in rt.lines(alloc) {
-        let line = line?;
-        if let Some(name) = line.strip_prefix("# ") {
-            if let Some(n) = expected {
-                report(&rt, n)?;
+fn report(rt: &impl Print, expected: usize) -> io::Result<()> {
+    println!(rt; ": {expected} as expected")
+}
+
+fn main(rt: HostRuntime) -> io::Result<()> {
+    let mut rows = Vec::new(rt.alloc());
+    rt.reader().take(MOST).read_to_end(&mut rows)?;
+    let mut expected: usize = 0;
+    for (i, line) in rows.split_inclusive(|b| *b == b'\n').enumerate() {
+        let row = match line {
+            [row @ .., b'\n'] => row,
+            _ => line,
+        };
+        if row.first() == Some(&b'#') {
+            if i > 0 {
+                report(&rt, expected)?;
             }
-            print!(rt; "{name}")?;
-            expected = Some(0);
-        } else if is_expected(alloc, &line).context(format_args!("row {line:?}"))? {
-            expected = expected.map(|n: usize| n.saturating_add(1));
+            io::writer(&rt).write_all(row.get(2..).unwrap_or_default())?;
+            expected = 0;
+        } else if is_expected(row) {
+            expected = expected.saturating_add(1);
         } else {
-            print!(rt; "\nnot as expected: {line}")?;
+            print!(rt; "\nnot as expected: ")?;
+            io::writer(&rt).write_all(row)?;
         }
     }
-    report(&rt, expected.unwrap_or(0))
+    report(&rt, expected)
 }

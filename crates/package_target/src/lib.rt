@@ -12,7 +12,7 @@ ghost use Rattle.definition.specs.Exports.{Request, string_target, PACKAGE_TARGE
 ghost use Rattle.definition.specs.Specifier.{parse_specifier};
 ghost use Rattle.settings.specs.Meaning.{texts_left};
 ghost use Rattle.targets.specs.Contexts.{context_of};
-ghost use Rattle.targets.specs.Answers.{answer_of, Asked};
+ghost use Rattle.targets.specs.Answers.{answer_of, Asked, Texted};
 ghost use Rattle.package_target.specs.Places.{Written, Stands, kind_of};
 ghost use Rattle.package_target.specs.Conditions.{condition_of, IsCondition, places, LastValues, Turn};
 ghost use Rattle.package_target.specs.Answers.{Requested, SameBuffers, is_nothing, ends_array};
@@ -128,6 +128,7 @@ impl Resolution<'_> {
     #[inline(never)]
     fn string_target(&self, at: usize, c: Context, buffers: &mut Buffers<'_>) -> Answer
         ensures result_after { (q : Request) (d : ℕ) (s : List ℕ) → Asked q self.now.wanted → Stands self.now.manifest.now d at (str s) → answer_of self.now.manifest.now q buffers.new.path.now result ≡ string_target q (parse_specifier s) s (context_of self.now.manifest.now c) }
+        ensures texted { Texted buffers.new.path.now result.outcome }
         ensures same { SameBuffers buffers.old buffers.new }
     {
         let path = &mut *buffers.path;
@@ -141,6 +142,7 @@ impl Resolution<'_> {
     #[cycle(target)]
     fn array(&self, at: usize, depth: usize, c: Context, buffers: &mut Buffers<'_>) -> Answer
         ensures result_after { (q : Request) (j : Json) → Requested q self.now → Stands self.now.manifest.now depth at j → Kind.Array ≡ kind_of j → answer_of self.now.manifest.now q buffers.new.path.now result ≡ PACKAGE_TARGET_RESOLVE q j (context_of self.now.manifest.now c) }
+        ensures texted { Texted buffers.new.path.now result.outcome }
         ensures same { SameBuffers buffers.old buffers.new }
     {
         if depth == 0 {
@@ -160,6 +162,7 @@ impl Resolution<'_> {
     #[cycle(target)]
     fn object(&self, at: usize, depth: usize, c: Context, buffers: &mut Buffers<'_>) -> Answer
         ensures result_after { (q : Request) (j : Json) → Requested q self.now → Stands self.now.manifest.now depth at j → Kind.Object ≡ kind_of j → answer_of self.now.manifest.now q buffers.new.path.now result ≡ PACKAGE_TARGET_RESOLVE q j (context_of self.now.manifest.now c) }
+        ensures texted { Texted buffers.new.path.now result.outcome }
         ensures same { SameBuffers buffers.old buffers.new }
     {
         if depth == 0 {
@@ -186,6 +189,7 @@ impl Resolution<'_> {
     #[cycle(target)]
     fn target(&self, at: usize, depth: usize, c: Context, buffers: &mut Buffers<'_>) -> Answer
         ensures result_after { (q : Request) (j : Json) → Requested q self.now → Stands self.now.manifest.now depth at j → answer_of self.now.manifest.now q buffers.new.path.now result ≡ PACKAGE_TARGET_RESOLVE q j (context_of self.now.manifest.now c) }
+        ensures texted { Texted buffers.new.path.now result.outcome }
         ensures same { SameBuffers buffers.old buffers.new }
     {
         match kind_at(self.manifest, at) {
@@ -198,7 +202,8 @@ impl Resolution<'_> {
 }
 
 // The target at a place, in which `depth` more brackets may be open. The answer's path, or the target that a failure names, is in the lent path;
-// work ends with its old length and any bytes. Where no value stands there, or work has fewer than 1,024 bytes, the answer is free.
+// work ends with its old length and any bytes. Where no value stands there, or work has fewer than 1,024 bytes, the answer is free. In any case, where
+// the outcome has a text, the lent path is not over-long.
 pub fn package_target_resolve(
     resolution: Resolution<'_>,
     at: usize,
@@ -208,6 +213,7 @@ pub fn package_target_resolve(
     path: &mut PathBuf,
 ) -> Answer
     ensures result_after { (q : Request) (j : Json) → 1024 ≤ length work.old → Requested q resolution.entry → Stands resolution.entry.manifest.now depth at j → answer_of resolution.entry.manifest.now q path.new result ≡ PACKAGE_TARGET_RESOLVE q j (context_of resolution.entry.manifest.now c) }
+    ensures texted { Texted path.new result.outcome }
     ensures work_len_unchanged { length work.new ≡ length work.old }
 {
     let Some(work) = work.first_chunk_mut() else {

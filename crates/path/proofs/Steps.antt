@@ -4,7 +4,7 @@ use Prim.Native.Nat.{ℕ, suc, max, ◌+◌, ◌-◌, ◌≤◌, ◌<◌}
 use native.Mathlib.Omega.{arith}
 use mathlib.Core.Bool.{Bool, true, false, not, ◌&&◌, ◌||◌}
 use mathlib.Core.List.{List, [], ◌∷◌, ◌++◌, append-nil}
-use lib.ListN.{length, drop, take, length-append, length-take}
+use lib.ListN.{length, drop, take, length-append, length-take, drop_of_length-le}
 use lib.Seq.{length-take-le, take-take}
 use lib.Dec.{eqb, leb, ltb}
 use borrow.Author.Tests.{le-leb, lt-leb, le-ltb, lt-ltb, leb-true, leb-false, ne_eqb}
@@ -16,6 +16,7 @@ use Rattle.std.specs.Slice.{IsGetRangeResult}
 use Rattle.definition.specs.Text.{text, equal, ends_with, slash, contains, before_last, overwrite}
 use Rattle.definition.specs.Path.{Built, built, too_long, and_path, limited, push, parent, pops, name_of, add_extension, add_name_and_extension}
 use Rattle.laws.specs.TextLaws.{overwrite_upto}
+use Rattle.std.proofs.lemmas.List.{take_all}
 use Rattle.laws.specs.PathLaws.{limited_fits, limited_long, then_append}
 use Rattle.laws.specs.PathSteps.{parent_none, parent_root, parent_some, name_behind, name_whole, last_inside, last_missing, last_found}
 use Rattle.path.specs.Meaning.{path_at, is_too_long}
@@ -65,6 +66,14 @@ module _ (b : List ℕ) (n : ℕ) (t : List ℕ) where
     put_part s e g =
         rw e (written (put_mid n (n + length t - n) b t) g
         (take-put_mid n (n + length t - n) b t (n + length t) refl (omega arith)))
+
+-- a text over one of its length
+pub overwrite_whole : (s d : List ℕ) → length d ≡ length s → overwrite 0 s d ≡ s
+unfolding overwrite
+overwrite_whole s d e =
+    let text : take (length d - 0) s ≡ s = take_all (length d - 0) s (omega arith) in
+    let rest : drop (0 + length s) d ≡ [] = drop_of_length-le d (omega arith) in
+    rw (text, rest) (append-nil s)
 
 -- `is_empty`
 pub empty_is : {r u : Bool} (s : List ℕ) → r ≡ eqb (length s) 0 → r ≡ u → equal s [] ≡ u

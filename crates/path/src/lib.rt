@@ -17,7 +17,7 @@ const LIMIT: usize = 2048;
 const TOO_LONG: usize = LIMIT + 1;
 
 // A path under construction, by value. A length over the limit marks a path that was over-long: it has no text, and every
-// method keeps it so but `set` and `set_normalized`, which replace it.
+// method keeps it so.
 #[derive(Drop)]
 pub struct PathBuf {
     bytes: [u8; LIMIT],
@@ -69,7 +69,7 @@ impl PathBuf {
             self.len = TOO_LONG;
             return;
         }
-        self.bytes[n..n + t.len()].copy_from_slice(t);
+        text::copy_at(&mut self.bytes[n..n + t.len()], 0, t);
         self.len = n + t.len();
     }
 
@@ -206,28 +206,6 @@ impl PathBuf {
         }
     }
 
-    // Replaces the path by a text.
-    #[tactic(auto, unfolding(definition::specs::Path::add_extension, crate::specs::Meaning::path_at))]
-    pub fn set(&mut self, text: &[u8])
-        ensures { path_of self.new ≡ limited text.now }
-    {
-        self.len = 0;
-        self.put(text);
-    }
-
-    // Replaces the path by what `normalize_with` gives.
-    #[tactic(auto, using(crate::proofs::Parts::with_whole, crate::proofs::Parts::with_relative))]
-    pub fn set_normalized(&mut self, base: &[u8], subpath: &[u8])
-        ensures { path_of self.new ≡ normalize_with base.now subpath.now }
-    {
-        if is_whole(subpath) {
-            self.set(subpath);
-        } else {
-            self.set(base);
-            self.push_parts(subpath);
-        }
-    }
-
     // `add_extension`
     pub fn append(mut self, ext: &[u8]) -> PathBuf
         ensures { path_of result ≡ and_path (path_of self) (λ p. add_extension p ext.now) }
@@ -345,12 +323,34 @@ fn is_whole(sub: &[u8]) -> bool
     sub.is_empty() || text::starts_with(sub, b"/")
 }
 
+// Puts a text in the place of a path.
+#[tactic(auto, unfolding(definition::specs::Path::add_extension, crate::specs::Meaning::path_at))]
+pub fn set(path: &mut PathBuf, text: &[u8])
+    ensures { path_of path.new ≡ limited text.now }
+{
+    path.len = 0;
+    path.put(text);
+}
+
+// Puts what `normalize_with` gives in the place of a path.
+#[tactic(auto, using(crate::proofs::Parts::with_whole, crate::proofs::Parts::with_relative))]
+pub fn set_normalized(path: &mut PathBuf, base: &[u8], subpath: &[u8])
+    ensures { path_of path.new ≡ normalize_with base.now subpath.now }
+{
+    if is_whole(subpath) {
+        set(path, subpath);
+    } else {
+        set(path, base);
+        path.push_parts(subpath);
+    }
+}
+
 // The same without "./": an empty or absolute subpath is the answer itself.
 pub fn normalize_with(base: &[u8], sub: &[u8]) -> PathBuf
     ensures { path_of result ≡ normalize_with base.now sub.now }
 {
     let mut p = PathBuf::new();
-    p.set_normalized(base, sub);
+    set_normalized(&mut p, base, sub);
     p
 }
 

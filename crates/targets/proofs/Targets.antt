@@ -11,7 +11,7 @@ use Rattle.definition.specs.Text.{text, star, contains, ends_with, replace}
 use Rattle.definition.specs.Path.{Built, built, too_long, and_path, limited, add_extension, normalize_with, is_invalid_exports_target}
 use Rattle.laws.specs.PathLaws.{limited_fits, limited_long as limited-over, limited_append}
 use Rattle.definition.specs.Exports.{Request, found, overlong, target, directory_error, target_path, invalid_target, outcome_of, normalize_string_target}
-use Rattle.path.specs.Meaning.{path_at}
+use Rattle.path.specs.Meaning.{path_at, is_too_long}
 use Rattle.path.proofs.Steps.{at_fits, at_long}
 use Rattle.targets.specs.declared.Form.TheVariants.{Plain, Starred, Folder}
 use Rattle.targets.specs.declared.Outcome.TheVariants.{InvalidTarget, ConfigDirectory}
@@ -53,6 +53,9 @@ limited_same t u e l = sym (limited_text t u (e ∙ limited_fits u l))
 -- a text under the limit is the text of its path
 pub text_put : (x : Built) (t : List ℕ) → x ≡ limited t → length t ≤ 2048 → text_in x ≡ t
 text_put x t e l = rw (e, limited_fits t l)
+
+pub put_short : (x : Built) (t : List ℕ) → x ≡ limited t → length t ≤ 2048 → is_too_long x ≡ false
+put_short x t e l = rw (e, limited_fits t l)
 
 -- a target
 module _ (q : Request) (t : List ℕ) where

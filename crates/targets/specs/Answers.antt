@@ -6,7 +6,7 @@ use Rattle.definition.specs.Path.{Built, built, too_long, manifest_of}
 use Rattle.definition.specs.Exports as exports
 use Rattle.definition.specs.Exports.{Request, found, nothing, failed, overlong, InvalidPackageTarget, InvalidPackageConfig, InvalidPackageConfigDirectory, normalize_string_target, target_path, invalid_target, path_not_exported, or_dot}
 use Rattle.path.specs.declared.PathBuf.{PathBuf}
-use Rattle.path.specs.Meaning.{path_of}
+use Rattle.path.specs.Meaning.{path_of, is_too_long}
 use Rattle.targets.specs.declared.Context.{Context}
 use Rattle.targets.specs.declared.Form.{Form}
 use Rattle.targets.specs.declared.Form.TheVariants.{Plain, Starred, Folder}
@@ -36,6 +36,18 @@ resolved m c o = record { context = context_of m c; outcome = o }
 abbrev pub text_in : Built → List ℕ
 text_in (built t) = t
 text_in too_long = []
+
+-- where an outcome has a text, the lent path is not over-long
+abbrev pub Texted : PathBuf → Outcome → Type 0
+Texted p Found = is_too_long (path_of p) ≡ false
+Texted p Nothing = Unit {0}
+Texted p Empty = is_too_long (path_of p) ≡ false
+Texted p InvalidTarget = is_too_long (path_of p) ≡ false
+Texted p NotExportedMatch = Unit {0}
+Texted p NotExported = Unit {0}
+Texted p ConfigMixed = Unit {0}
+Texted p ConfigDirectory = Unit {0}
+Texted p OverLong = Unit {0}
 
 -- an outcome of a request, and an answer, whose text is in the lent path
 abbrev pub outcome_at : Request → PathBuf → Outcome → exports.Outcome

@@ -14,7 +14,7 @@ ghost use Rattle.definition.specs.Specifier.{unescape, parse_specifier};
 ghost use Rattle.specifier.specs.Meaning.{written, path_text};
 ghost use Rattle.targets.specs.Keys.{rank_of, order_of, match_of};
 ghost use Rattle.targets.specs.Contexts.{string_at, part_text, Inside, context_of};
-ghost use Rattle.targets.specs.Answers.{outcome_at, answer_of, resolved, path_target, Asked};
+ghost use Rattle.targets.specs.Answers.{outcome_at, answer_of, resolved, path_target, Asked, Texted};
 
 use path::PathBuf;
 use specifier::{Path, Specifier};
@@ -170,6 +170,17 @@ impl Part {
     }
 }
 
+// Puts the text of a part at the start of w, as far as there is room. The answer is the text's length.
+pub fn part_text(m: &[u8], p: Part, w: &mut [u8]) -> usize
+    ensures value { result ≡ length (part_text m.now p) }
+    ensures w_after { w.new ≡ overwrite 0 (part_text m.now p) w.old }
+{
+    let mut decoded = [0u8; 1024];
+    let part = p.text(m, &mut decoded);
+    text::copy_at(w, 0, part);
+    part.len()
+}
+
 // context.rs: the query and the fragment so far, each a part of the target it came from.
 #[derive(Clone, Copy, Debug, Default, PartialEq, Eq)]
 pub struct Context {
@@ -257,16 +268,17 @@ impl<'a> Wanted<'a> {
 
 // A target, with the match put in, below the package's directory.
 fn target_path(url: &[u8], t: &[u8], path: &mut PathBuf) -> Outcome
-    ensures { (q : Request) → q.package_url ≡ url.now → outcome_at q path.new result ≡ target_path q (target t.now) }
+    ensures result_after { (q : Request) → q.package_url ≡ url.now → outcome_at q path.new result ≡ target_path q (target t.now) }
+    ensures texted { Texted path.new result }
 {
     if t.len() > 2048 {
         return Outcome::OverLong;
     }
     if path::is_invalid_exports_target(t) {
-        path.set(t);
+        path::set(path, t);
         return Outcome::InvalidTarget;
     }
-    path.set_normalized(url, t);
+    path::set_normalized(path, url, t);
     match path.as_slice() {
         Some(_) => Outcome::Found,
         None => Outcome::OverLong,
@@ -275,7 +287,8 @@ fn target_path(url: &[u8], t: &[u8], path: &mut PathBuf) -> Outcome
 
 // The same for a target that was built.
 fn built_target(url: &[u8], built: &PathBuf, path: &mut PathBuf) -> Outcome
-    ensures { (q : Request) (t : List ℕ) → q.package_url ≡ url.now → path_of built.now ≡ limited t → outcome_at q path.new result ≡ target_path q (target t) }
+    ensures result_after { (q : Request) (t : List ℕ) → q.package_url ≡ url.now → path_of built.now ≡ limited t → outcome_at q path.new result ≡ target_path q (target t) }
+    ensures texted { Texted path.new result }
 {
     match built.as_slice() {
         Some(t) => target_path(url, t, path),
@@ -293,7 +306,8 @@ fn substitute(t: &[u8], pattern: &[u8]) -> PathBuf
 
 // `normalize_string_target`, and what it gives.
 fn normalized_target(wanted: Wanted<'_>, t: &[u8], path: &mut PathBuf) -> Outcome
-    ensures { (q : Request) → Asked q wanted.entry → outcome_at q path.new result ≡ target_path q (normalize_string_target q.key t.now q.matched) }
+    ensures result_after { (q : Request) → Asked q wanted.entry → outcome_at q path.new result ≡ target_path q (normalize_string_target q.key t.now q.matched) }
+    ensures texted { Texted path.new result }
 {
     let Wanted { url, form, pattern } = wanted;
     match form {
@@ -311,19 +325,21 @@ fn normalized_target(wanted: Wanted<'_>, t: &[u8], path: &mut PathBuf) -> Outcom
 
 // The path of a target, which has at most 2,048 bytes.
 fn parsed_target(wanted: Wanted<'_>, t: &[u8], path: &mut PathBuf) -> Outcome
-    ensures { (q : Request) → Asked q wanted.entry → length t.now ≤ 2048 → outcome_at q path.new result ≡ path_target q t.now }
+    ensures result_after { (q : Request) → Asked q wanted.entry → length t.now ≤ 2048 → outcome_at q path.new result ≡ path_target q t.now }
+    ensures texted { length t.now ≤ 2048 → Texted path.new result }
 {
     if text::starts_with(t, b"./") {
         normalized_target(wanted, t, path)
     } else {
-        path.set(t);
+        path::set(path, t);
         Outcome::InvalidTarget
     }
 }
 
 // The same for the path of a specifier, unescaped where something in it is escaped.
 fn specifier_target(wanted: Wanted<'_>, target: Path<'_>, path: &mut PathBuf) -> Outcome
-    ensures { (q : Request) → Asked q wanted.entry → length (path_text target.entry) ≤ 2048 → outcome_at q path.new result ≡ path_target q (path_text target.entry) }
+    ensures result_after { (q : Request) → Asked q wanted.entry → length (path_text target.entry) ≤ 2048 → outcome_at q path.new result ≡ path_target q (path_text target.entry) }
+    ensures texted { length (written target.entry) ≤ 2048 → Texted path.new result }
 {
     match target {
         Path::Plain(t) => parsed_target(wanted, t, path),
@@ -357,7 +373,7 @@ fn parsed_context(c: Context, s: &[u8], at: usize, parsed: Specifier<'_>) -> Con
 }
 
 // The text of the string at a place as a target, which has at most 1,024 bytes; for a longer text, or one that is not that string's, the answer is
-// free.
+// free. Where the outcome has a text, the lent path is not over-long, for up to 2,048 bytes of any text.
 pub fn text_target(
     wanted: Wanted<'_>,
     s: &[u8],
@@ -365,10 +381,11 @@ pub fn text_target(
     c: Context,
     path: &mut PathBuf,
 ) -> Answer
-    ensures { (m : List ℕ) (q : Request) → Asked q wanted.entry → length s.now ≤ 1024 → string_at m at ≡ s.now → answer_of m q path.new result ≡ string_target q (parse_specifier s.now) s.now (context_of m c) }
+    ensures result_after { (m : List ℕ) (q : Request) → Asked q wanted.entry → length s.now ≤ 1024 → string_at m at ≡ s.now → answer_of m q path.new result ≡ string_target q (parse_specifier s.now) s.now (context_of m c) }
+    ensures texted { length s.now ≤ 2048 → Texted path.new result.outcome }
 {
     let Ok(parsed) = Specifier::parse(s) else {
-        path.set(s);
+        path::set(path, s);
         return Answer::new(c, Outcome::Empty);
     };
     let context = parsed_context(c, s, at, parsed);

@@ -99,9 +99,11 @@ pub fn part(s: &[u8], at: usize, n: usize) -> &[u8]
 pub fn copy_at(dst: &mut [u8], at: usize, src: &[u8])
     ensures { dst.new ≡ overwrite at src.now dst.old }
 {
-    let from = at.min(dst.len());
+    // By `copy_from_slice` the library would need memmove from whoever links it.
     let n = room(dst.len(), at, src.len());
-    dst[from..from + n].copy_from_slice(&src[..n]);
+    for i in 0..n {
+        dst[at + i] = src[i];
+    }
 }
 
 // A number of a buffer that zeros may fill.

@@ -1,4 +1,7 @@
 -- A manifest is sought, and then judged.
+use Rattle.std.proofs.Common.{◌≡◌, refl}
+use Rattle.std.specs.Prelude.{Some}
+use Rattle.manifests.specs.Meaning.{Lies}
 use Rattle.directory.proofs.Manifests.{nearest_none, nearest_found, nearest_stop}
 use Rattle.directory.proofs.scope.Goals as goal
 
@@ -16,3 +19,10 @@ returns-in_err-package-clause-done c G =
 pub returns-clause-done : goal.returns-clause-done
 returns-clause-done c G =
     nearest_found G _ _ (rw c.in-Some.is at (c.in_ok-near.ensures.done G)) (c.in_ok-package.ensures.done _ G)
+
+pub returns-clause-lies : goal.returns-clause-lies
+returns-clause-lies c o e =
+    let kept : Some c.in_ok-package.package ≡ o = cc in
+    let near : Lies c.args.l.now c.in-Some.near.contents.now =
+    rw c.in-Some.is at (c.in_ok-near.ensures.lies _ refl) in
+    rw (← kept, c.in_ok-package.ensures.kept _ refl) near

@@ -20,3 +20,7 @@ returns-in-Continue-clause-result_after c j l h =
     NotExported
     c.unresolved-in-Continue.ensures
     ∙ c.in-Continue.ensures.result_after j (stands_at h)
+
+pub returns-in-Break-clause-texted : goal.returns-in-Break-clause-texted
+returns-in-Break-clause-texted c =
+    let e = c.in-Break.ensures.texted in let p = sym c.in-Break.ensures.same.path in search (rules, e, p)

@@ -1,21 +1,27 @@
--- By where the first byte stands that fails the test.
-use mathlib.Core.Path.{refl, sym, ◌∙◌, ap}
-use lib.ListN.{drop, get_or}
-use lib.Seq.{drop-drop}
-use borrow.Author.Tests.{tests}
-use borrow.Author.Rules.{rules}
-use Rattle.std.specs.List.{prefix_len}
-use Rattle.std.specs.Prelude.{not, unwrap_or}
-use Rattle.std.proofs.lemmas.Iterator.{YieldsList-from_range}
-use Rattle.std.proofs.lemmas.Iterator.Adapters.{option_map_id}
-use Rattle.std.proofs.lemmas.Iterator.Search.{find_from_yields_List}
-use Rattle.json_text.proofs.Positions.{first_failing, skip_prefix}
+-- Each byte passes the test, or the search ends at it; behind the last there is nothing.
+use mathlib.Core.Path.{refl, sym, ◌∙◌}
+use Rattle.std.proofs.Common.{◌≤◌, length, arith}
+use Rattle.definition.specs.Text.{skip_while}
+use Rattle.json_string.proofs.Rules.{here, past}
 use Rattle.json_scalar.proofs.skip_while.Goals as goal
 
+pub loop-i-init : goal.loop-i-init
+loop-i-init g c p h = refl
+
+pub loop-i-preserved : goal.loop-i-preserved
+unfolding skip_while
+loop-i-preserved g c p h =
+    c.loop-i.invariant p h
+    ∙ rw (here _ _ c.loop-i-test.true) (rw (sym (h _ _ c.test.ensures) ∙ c.if-not-test.false))
+
+pub returns-then-not-test : goal.returns-then-not-test
+unfolding skip_while
+returns-then-not-test g c p h =
+    c.loop-i.invariant p h
+    ∙ rw (here _ _ c.loop-i-test.true) (rw (sym (h _ _ c.test.ensures) ∙ c.if-not-test.true))
+
 pub returns : goal.returns
+unfolding skip_while
 returns g c p h =
-    let m = c.args.m.now in
-    let place = find_from_yields_List (λ i. not (p (get_or m i 0))) _ _ c.find.result c.find.ensures.ran (YieldsList-from_range c.args.at _ _ refl refl) (λ x b q k. (search (rules, tests), search (rules, tests, h))) in
-    let end = c.unwrap_or.ensures ∙ ap (unwrap_or c.find.result) c.max.ensures ∙ first_failing p m c.args.at _ refl _ (sym (option_map_id _) ∙ place) in
-    skip_prefix p (drop c.args.at m) ∙ drop-drop (prefix_len p (drop c.args.at m)) c.args.at m
-    ∙ ap (λ k. drop k m) (sym end)
+    let behind : length c.args.m.now ≤ c.max.result = omega (arith, c.max.ensures) in
+    c.loop-i.invariant p h ∙ rw (past _ _ c.loop-i-test.false, past _ _ behind)

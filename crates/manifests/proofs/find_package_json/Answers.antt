@@ -1,6 +1,7 @@
 -- A turn of the climb reads one manifest: the search ends in it, goes on above, or there is no directory left.
-use Rattle.std.proofs.Common.{rules}
-use Rattle.manifests.specs.Meaning.{seek, or_further}
+use Rattle.std.proofs.Common.{◌≡◌, refl, rules}
+use Rattle.std.specs.Prelude.{Some}
+use Rattle.manifests.specs.Meaning.{seek, or_further, Lies}
 use Rattle.consults.specs.Tape.{done_bind, done_stop, done_ret}
 use Rattle.manifests.proofs.find_package_json.Goals as goal
 
@@ -28,3 +29,10 @@ loop-dir-preserved c = (
 pub returns-clause-done : goal.returns-clause-done
 unfolding seek
 returns-clause-done c = λ G. c.loop-dir.invariant.1 G _ _ (rw c.in-None.ensures.steps.0 done_ret)
+
+pub returns-in-Some-2-clause-lies : goal.returns-in-Some-2-clause-lies
+returns-in-Some-2-clause-lies c o e =
+    let found : Some c.of.result ≡ o = cc in
+    let read : Lies c.args.l.now c.in-Some-2.contents.now =
+    rw c.in-Some-2.is at (c.in_ok-contents.ensures.lies _ refl) in
+    rw (← found, c.of.ensures.contents) read

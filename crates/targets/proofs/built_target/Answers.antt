@@ -3,8 +3,9 @@ use Rattle.std.proofs.Common.{◌∙◌}
 use Rattle.targets.proofs.Targets.{built_over, built_text}
 use Rattle.targets.proofs.built_target.Goals as goal
 
-pub returns-in-Some : goal.returns-in-Some
-returns-in-Some c q t u e = c.target_path.ensures q u ∙ built_text q t _ e _ c.in-Some.ensures
+pub returns-in-Some-clause-result_after : goal.returns-in-Some-clause-result_after
+returns-in-Some-clause-result_after c q t u e =
+    c.target_path.ensures.result_after q u ∙ built_text q t _ e _ c.in-Some.ensures
 
-pub returns-in-None : goal.returns-in-None
-returns-in-None c q t u e = built_over q t _ e c.in-None.ensures
+pub returns-in-None-clause-result_after : goal.returns-in-None-clause-result_after
+returns-in-None-clause-result_after c q t u e = built_over q t _ e c.in-None.ensures

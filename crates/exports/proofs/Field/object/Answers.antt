@@ -41,9 +41,12 @@ returns-clause-result_after c ms h =
     let conditions = texts_of c.args.self.settings.now 0 in
     let sub = c.args.subpath.now in
     let keys = c.keys-keys.ensures ms h in
-    c.unless_nothing.ensures m url sub _ (not_exported url sub)
+    c.unless_nothing.ensures.value m url sub _ (not_exported url sub)
     ∙ ap (λ x. or_go_on x (not_exported url sub)) (c.by_keys.ensures.result_after ms h)
     ∙ c.in_ok-context.ensures.result_after ms (then_keys url conditions sub fresh ms) h
     (ap (λ (k : KeyMarks). k.subpath) keys)
     ∙ object_is url conditions sub fresh ms
     (ap (λ (k : KeyMarks). k.dot && k.other) (sym keys) ∙ sym c.if-are_mixed.ensures)
+
+pub returns-clause-texted : goal.returns-clause-texted
+returns-clause-texted c = c.unless_nothing.ensures.texted _ c.by_keys.ensures.texted

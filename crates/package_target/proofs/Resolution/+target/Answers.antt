@@ -15,6 +15,7 @@ array-returns-then-depth-eq0-clause-result_after t c q j a h e = absurd (array_s
 pub array-loop-element-init : goal.array-loop-element-init
 array-loop-element-init t c = record {
   same = record { work = refl; path = refl };
+  texted = rw c.new-answer.ensures tt;
   left = λ q j a h e.
       let m = c.args.self.now.manifest.now in
       let start = c.elements-element-items.ensures in
@@ -34,6 +35,7 @@ array-loop-element-preserved t c =
     let then_same = c.target-answer.ensures.same in
     record {
       same = record { work = then_same.work ∙ first.work; path = then_same.path ∙ first.path };
+      texted = c.target-answer.ensures.texted;
       left = λ q j a h e.
           array_on (c.loop-element.invariant.left q j a h e) c.in-Some.ensures.steps _ c.target-answer.result
           (λ j s. c.target-answer.ensures.result_after q j a s) (sym c.if-ends_array.ensures);
@@ -49,6 +51,7 @@ object-returns-then-depth-eq0-clause-result_after t c q j a h e = absurd (object
 pub object-loop-member-init : goal.object-loop-member-init
 object-loop-member-init t c = record {
   same = record { work = refl; path = refl };
+  texted = rw c.new-answer.ensures tt;
   nothing = ap (λ (r : Answer). is_nothing r.outcome) c.new-answer.ensures;
   left = λ q j a h e.
       let m = c.args.self.now.manifest.now in
@@ -76,6 +79,7 @@ object-loop-member-preserved-else-not-is_nothing t c =
     let turn = c.take_turn in
     record {
       same = record { work = then_same.work ∙ first.work; path = then_same.path ∙ first.path };
+      texted = c.target-answer.ensures.texted;
       nothing = sym c.if-not-is_nothing.ensures;
       left = λ q j a h e.
           object_on (c.loop-member.invariant.left q j a h e) c.in-Some.ensures.steps
@@ -90,6 +94,7 @@ object-loop-member-preserved t c =
     let turn = c.take_turn in
     record {
       same = c.loop-member.invariant.same;
+      texted = c.loop-member.invariant.texted;
       nothing = c.loop-member.invariant.nothing;
       left = λ q j a h e.
           object_skip (c.loop-member.invariant.left q j a h e) c.in-Some.ensures.steps
